@@ -1,0 +1,1 @@
+// The meaning of the engine. All of it stands in specs/.
