@@ -1,0 +1,4 @@
+pub mod Sizes
+pub mod Builds
+pub mod Lists
+pub mod Sorts
