@@ -1,0 +1,9 @@
+pub mod Stacks
+pub mod Layers
+pub mod Picks
+pub mod Middles
+pub mod Additions
+pub mod Raises
+pub mod Scatters
+pub mod Holdings
+pub mod Reaches
