@@ -1,0 +1,4 @@
+pub mod Writing
+pub mod OutputTrees
+pub mod Carried
+pub mod Lookups
