@@ -1,0 +1,4 @@
+pub mod Keys
+pub mod Tables
+pub mod Padding
+pub mod Held
