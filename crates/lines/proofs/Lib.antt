@@ -1,0 +1,16 @@
+pub mod Listing
+pub mod Nodes
+pub mod Collecting
+pub mod Tying
+pub mod Members
+pub mod FirstFaults
+pub mod Ordering
+pub mod Counting
+pub mod Bracketing
+pub mod NodeVars
+pub mod Terms
+pub mod Sizing
+pub mod Placing
+pub mod Describing
+pub mod Letters
+pub mod Rules

@@ -1,0 +1,12 @@
+pub mod Lists
+pub mod Tables
+pub mod Ties
+pub mod Sets
+pub mod Given
+pub mod Checks
+pub mod Limits
+pub mod Evenness
+pub mod Sizes
+pub mod Describes
+pub mod Faults
+pub mod Judging
