@@ -1,0 +1,4 @@
+pub mod Answers
+pub mod Pieces
+pub mod Tables
+pub mod Views
