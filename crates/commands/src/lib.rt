@@ -1,4 +1,6 @@
 // Commands of a graph and their bytes.
+#![tactic(auto)]
+
 mod command;
 mod decoding;
 mod encoding;

@@ -1,4 +1,6 @@
 // Tests of the bytes of commands.
+#![tactic(auto)]
+
 #[cfg(test)]
 mod tests {
     use commands::{Command, Decoded, DepthStreams, KeyDepths, decode};

@@ -1,4 +1,6 @@
 // Plans one connection, from an origin over one cross dock to a destination, from a table of docks.
+#![tactic(auto)]
+
 mod reading;
 mod shows;
 

@@ -1,4 +1,6 @@
 // The blocks that compute no values, over streams that are given by their numbers: each finds the tapes, and records the tapes that it writes.
+#![tactic(auto)]
+
 mod aligns;
 mod merges;
 mod recording;

@@ -1,4 +1,6 @@
 // Cross docks: reads a text table of them, and answers over its legs by the three kinds of value.
+#![tactic(auto)]
+
 mod answers;
 mod bytes;
 mod class;

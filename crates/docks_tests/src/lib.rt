@@ -1,4 +1,6 @@
 // What a table says, on examples.
+#![tactic(auto)]
+
 #[cfg(test)]
 mod tests {
     use docks::{TableError, TableFault, any_runs, best_dock, count_docks, least_time, read_table};

@@ -1,4 +1,6 @@
 // Formats of a level: how words stand for its fibers.
+#![tactic(auto)]
+
 mod compressed;
 mod dense;
 mod format;

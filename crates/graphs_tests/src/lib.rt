@@ -1,4 +1,6 @@
 // Tests of the lowering: lines and the bytes of their graphs.
+#![tactic(auto)]
+
 #[cfg(test)]
 mod tests {
     use graphs::{Graph, lower};

@@ -1,4 +1,6 @@
 // Levels whose format is known by a stored number, and code that is written once for all formats.
+#![tactic(auto)]
+
 mod family;
 mod search;
 mod two;

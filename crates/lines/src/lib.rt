@@ -1,4 +1,6 @@
 // Reads a line and judges it by its conditions.
+#![tactic(auto)]
+
 mod accesses;
 mod evenness;
 mod extents;

@@ -1,4 +1,6 @@
 // Lines with the rule that each breaks first and the place; 0 and 0 where one is accepted.
+#![tactic(auto)]
+
 #[cfg(test)]
 mod tests {
     use lines::{Extents, Slots, read_line};

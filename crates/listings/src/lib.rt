@@ -1,4 +1,6 @@
 // The commands of a graph one by one, for those who print them: as bytes, by their names, and as a DOT picture.
+#![tactic(auto)]
+
 ghost use Rattle.std.specs.Prelude.{◌<◌, ◌≤◌, length, IfSome};
 ghost use Rattle.commands.specs.Held.{meant};
 ghost use Rattle.listings.specs.Listings.{StandsAt, FindsModel, streams_read, streams_made, Lists};

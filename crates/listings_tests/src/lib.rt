@@ -1,3 +1,5 @@
 // Tests of graphs in print.
+#![tactic(auto)]
+
 #[cfg(test)]
 mod tests;

@@ -2,7 +2,7 @@
 use Rattle.std.proofs.Common.{◌≡◌, ℕ, suc, ◌+◌, Bool, true, false, cond, eqb, List, [], ◌∷◌, ◌++◌, map, length, Some, None, Option, sym, refl, ap, ◌∙◌, subst, ap₂, arith, length-append}
 use mathlib.Core.Path.{fun_ext}
 use mathlib.Core.Bool.{false≢true}
-use mathlib.Core.List.{map_map}
+use mathlib.Core.List.{map-map}
 use Rattle.model.specs.Semirings.{Algebra}
 use Rattle.model.specs.Fibers.{Ascends, Level, Fiber, fiber_at, coords, child}
 use Rattle.model.specs.Tensors.{Storage, has}
@@ -128,7 +128,7 @@ module _ {V : Type 0} (K : Algebra V) (T : ℕ → Storage V) (acs : List Access
   longer : (vs : List ℕ) (v : ℕ) (a : Access) → over K T acs body (v ∷ vs) (node K T acs body a (v ∷ vs)) ≡ over K T acs body vs (λ p. map (λ c. node K T acs body a (v ∷ vs) (c ∷ p)) (live K T acs body v vs p))
   longer vs v a =
       each_each (map (node K T acs body a (v ∷ vs))) (λ p. map (λ c. c ∷ p) (live K T acs body v vs p)) (length vs) (tree K T acs body vs)
-      ∙ ap (λ f. over K T acs body vs f) (fun_ext (λ p. map_map (node K T acs body a (v ∷ vs)) (λ c. c ∷ p) (live K T acs body v vs p)))
+      ∙ ap (λ f. over K T acs body vs f) (fun_ext (λ p. map-map (node K T acs body a (v ∷ vs)) (λ c. c ∷ p) (live K T acs body v vs p)))
 
   advance_is :
       (vs : List ℕ) (v : ℕ) (a : Access) (s : Scanned) (z n : ℕ) (ss : List (Stream V)) (b : Bool) → has a.vars v ≡ b → Seen ss vs v b a s

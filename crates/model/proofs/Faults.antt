@@ -1,5 +1,5 @@
 -- Where no place is at fault, every check passes; and tests over lists of numbers as facts. Assumes nothing.
-use Rattle.std.proofs.Common.{◌≡◌, ℕ, zero, suc, ◌+◌, ◌<◌, Bool, true, false, cond, not, ◌&&◌, ◌||◌, eqb, ◌⊎◌, List, [], ◌∷◌, ◌++◌, map, length, get_or, Some, None, Option, sym, refl, ap, ◌∙◌, subst, ap₂, inl, inr, true≢false}
+use Rattle.std.proofs.Common.{◌≡◌, ℕ, zero, suc, ◌+◌, ◌<◌, Bool, true, false, cond, not, ◌&&◌, ◌||◌, eqb, ◌⊎◌, List, [], ◌∷◌, ◌++◌, map, length, get_or, Some, None, Option, sym, refl, ap, ◌∙◌, subst, ap₂, inl, inr, true≢false, le_of_suc-le-suc, not-suc-le-zero}
 use mathlib.Core.Bool.{false≢true}
 use Rattle.std.specs.List.{flat_map, AllByRecursion as All}
 use Rattle.std.proofs.lemmas.Bool.{eq-eqb, eqb-true, not-false, or_parts, or_cases, or_left, or_right, and_parts}
@@ -70,7 +70,9 @@ module _ {A : Type 0} (P : A → Type 0) where
 
   -- what holds of each holds of the nth
   pub all_nth : (xs : List A) (i : ℕ) (d : A) → i < length xs → All P xs → P (get_or xs i d)
-  all_nth = Rattle.std.proofs.lemmas.List.Elements.All-get_or P
+  all_nth [] i d h k = absurd (not-suc-le-zero h)
+  all_nth (x ∷ xs) zero d h k = k.0
+  all_nth (x ∷ xs) (suc i) d h k = all_nth xs i d (le_of_suc-le-suc h) k.1
 
 pub has_append : (xs ys : List ℕ) (v : ℕ) → has (xs ++ ys) v ≡ (has xs v || has ys v)
 has_append [] ys v = refl

@@ -1,7 +1,7 @@
 -- What the commands of all variables do. Assumes nothing.
 use Rattle.std.proofs.Common.{◌≡◌, ℕ, zero, suc, ◌<◌, Bool, true, false, cond, ◌||◌, List, [], ◌∷◌, ◌++◌, map, length, get_or, refl, ap, ◌∙◌, ap₂, le_of_suc-le-suc, not-suc-le-zero}
 use mathlib.Core.Path.{fun_ext}
-use mathlib.Core.List.{map_map, reverse_aux}
+use mathlib.Core.List.{map-map, reverse_aux}
 use Rattle.model.specs.Semirings.{Algebra, total}
 use Rattle.model.specs.Tensors.{Storage, value_at, has}
 use Rattle.model.specs.Trees.{Pairwise}
@@ -206,7 +206,7 @@ module _ {V : Type 0} (K : Algebra V) (T : ℕ → Storage V) (acs : List Access
           (
           each_each (total K) (map f) (length vs) (tree K T acs body (v ∷ vs))
           ∙ each_each (λ xs. total K (map f xs)) (λ p. map (λ c. c ∷ p) (live K T acs body v vs p)) (length vs) (tree K T acs body vs)
-          ∙ ap (λ g. over K T acs body vs g) (fun_ext λ p. ap (total K) (map_map f (λ c. c ∷ p) (live K T acs body v vs p)))
+          ∙ ap (λ g. over K T acs body vs g) (fun_ext λ p. ap (total K) (map-map f (λ c. c ∷ p) (live K T acs body v vs p)))
           )
 
       go : (b : Bool)

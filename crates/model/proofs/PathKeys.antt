@@ -2,7 +2,7 @@
 use Rattle.std.proofs.Common.{◌≡◌, ℕ, zero, suc, ◌+◌, ◌-◌, Bool, true, false, cond, ◌||◌, eqb, List, [], ◌∷◌, ◌++◌, map, reverse, length, get_or, sym, refl, ap, ◌∙◌, ap₂, true≢false, arith}
 use mathlib.Core.Path.{fun_ext}
 use mathlib.Core.Bool.{false≢true}
-use mathlib.Core.List.{map_map, reverse-cons, reverse_aux}
+use mathlib.Core.List.{map-map, reverse-cons, reverse_aux}
 use lib.ListN.{length-reverse, get_or-append}
 use Rattle.std.proofs.lemmas.List.{get_or_push}
 use Rattle.std.proofs.lemmas.Bool.{eqb-true}
@@ -61,7 +61,7 @@ module _ {V : Type 0} (K : Algebra V) (laws : Laws K) (T : ℕ → Storage V) (a
       (s : Assignment) (left vs : List ℕ) (p : LeafPath) → length p ≡ length vs → Distinct vs → ((w : ℕ) → has left w ≡ true → has vs w ≡ true)
       → key (map (λ v. place (reverse vs) v + 1) left) p ≡ map (assign s vs p) left
   key-is s left vs p e d all =
-      map_map (λ m. get_or (reverse p) (m - 1) 0) (λ v. place (reverse vs) v + 1) left
+      map-map (λ m. get_or (reverse p) (m - 1) 0) (λ v. place (reverse vs) v + 1) left
       ∙ map_same left (λ v. get_or (reverse p) (place (reverse vs) v + 1 - 1) 0) (assign s vs p)
       (λ w h. (let one : place (reverse vs) w + 1 - 1 ≡ place (reverse vs) w = omega arith in ap (λ n. get_or (reverse p) n 0) one) ∙ at_place s vs p w e d (all w h))
 

@@ -1,7 +1,7 @@
 -- The sum over the paths, and the sum over all coordinates. Assumes nothing.
 use Rattle.std.proofs.Common.{◌≡◌, ℕ, zero, suc, ◌<◌, false, cond, ◌⊎◌, List, [], ◌∷◌, ◌++◌, map, length, refl, ap, ◌∙◌, inl, inr}
 use mathlib.Core.Path.{fun_ext}
-use mathlib.Core.List.{map_map, map-append}
+use mathlib.Core.List.{map-map, map-append}
 use Rattle.std.specs.List.{flat_map, AllByRecursion as All}
 use Rattle.model.specs.Semirings.{Algebra, Laws, total}
 use Rattle.model.specs.Fibers.{Ascends}
@@ -46,7 +46,7 @@ module _ {V : Type 0} (K : Algebra V) (laws : Laws K) (T : ℕ → Storage V) (a
       ap (total K) (gathered_each (flat_map (λ p. f p ∷ [])) (λ p. map (λ c. c ∷ p) (live K T acs body v vs p)) (length vs) (tree K T acs body vs))
       ∙ total_gathered K laws (λ p. flat_map (λ q. f q ∷ []) (map (λ c. c ∷ p) (live K T acs body v vs p))) (length vs) (tree K T acs body vs)
       ∙ ap (λ g. total K (gathered g (length vs) (tree K T acs body vs)))
-      (fun_ext λ p. ap {B = List V} (λ x. total K x ∷ []) (joined_ones f (map (λ c. c ∷ p) (live K T acs body v vs p)) ∙ map_map f (λ c. c ∷ p) (live K T acs body v vs p)))
+      (fun_ext λ p. ap {B = List V} (λ x. total K x ∷ []) (joined_ones f (map (λ c. c ∷ p) (live K T acs body v vs p)) ∙ map-map f (λ c. c ∷ p) (live K T acs body v vs p)))
       ∙ gathered_paths vs (sum_of K T acs body v vs f)
 
   -- what entries come to at a key

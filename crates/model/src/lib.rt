@@ -1,4 +1,6 @@
 // The meaning of the engine. Its definitions stand in specs/; each function here has a theorem about them as its contract.
+#![tactic(auto)]
+
 ghost use Rattle.model.specs.Grammar.{OneLine};
 ghost use Rattle.model.specs.Conditions.{OneAnswer};
 ghost use Rattle.model.specs.Bounds.{SmallGraphs};

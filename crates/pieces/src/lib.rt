@@ -1,4 +1,6 @@
 // The worked pieces: small cases on which the definitions are tried. Each function's contract is a theorem.
+#![tactic(auto)]
+
 ghost use Rattle.pieces.specs.Pieces.{Tapes, EmptySums, NoTime, Accepted, Graph, Reads35, Fits40, MultiplyAlike};
 
 // Everything that computes from the definitions alone.

@@ -1,4 +1,6 @@
 // Where the levels and the values of a stored tensor lie in the areas of the slots.
+#![tactic(auto)]
+
 mod level_words;
 mod parts;
 mod places;

@@ -1,4 +1,6 @@
 // Planning a STORE: all that can refuse it, and the sizes of the levels that it builds, before a word is written.
+#![tactic(auto)]
+
 mod checks;
 mod fault;
 mod fronts;

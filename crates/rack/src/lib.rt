@@ -1,4 +1,6 @@
 // A rack: five calls over the areas that a caller provides, and what holds of every list of calls on a rack just made.
+#![tactic(auto)]
+
 mod events;
 mod rack;
 mod runs;

@@ -1,4 +1,6 @@
 // COMPILE: a line read over what the slots hold, and its graph loaded.
+#![tactic(auto)]
+
 mod compiling;
 mod seeing;
 

@@ -1,4 +1,6 @@
 // The result of a rack: READ lists it, and DROP removes it with its graph.
+#![tactic(auto)]
+
 mod dropping;
 mod reading;
 

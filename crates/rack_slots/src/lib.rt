@@ -1,4 +1,6 @@
 // The slots of a rack: STORE fills one.
+#![tactic(auto)]
+
 mod storing;
 
 pub use storing::store;

@@ -1,4 +1,6 @@
 // The state of a rack: its slots, the graph that is loaded, and the areas that it runs in; and what its calls are given and answer.
+#![tactic(auto)]
+
 mod areas;
 mod busy;
 mod calls;

@@ -1,4 +1,6 @@
 // The result table: ascending keys beside stored values, over lent rows.
+#![tactic(auto)]
+
 pub mod key;
 mod listing;
 mod places;

@@ -1,4 +1,6 @@
 // Tests of the result table: what is added comes back in order, added up and without zeros.
+#![tactic(auto)]
+
 #[cfg(test)]
 mod tests {
     use results::{ResultKey, add, copy_keys, enter, find, nth_nonzero};

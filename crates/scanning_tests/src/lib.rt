@@ -1,4 +1,6 @@
 // SCAN over dense and compressed levels on small tapes: with exactly enough words, and with one too few.
+#![tactic(auto)]
+
 #[cfg(test)]
 mod tests {
     use formats::{Compressed, Dense, LevelSize};

@@ -1,4 +1,6 @@
 // Kinds of value: commutative semirings that need not have a one, and code written once for all of them.
+#![tactic(auto)]
+
 ghost use Rattle.std.specs.Prelude.{◌≡◌};
 ghost use Rattle.model.specs.Semirings.{Algebra, Laws, ZeroTest};
 

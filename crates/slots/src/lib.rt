@@ -1,4 +1,6 @@
 // What a rack knows of its eight slots: a record for each, and where a slot's levels and values lie.
+#![tactic(auto)]
+
 mod areas;
 mod making;
 mod records;

@@ -1,4 +1,6 @@
 // Tapes of depth 0 to 3, with empty fibers, through the blocks: with exactly enough words, and with one too few.
+#![tactic(auto)]
+
 #[cfg(test)]
 mod tests {
     use aligning::align::align;

@@ -1,4 +1,6 @@
 // STORE: a tensor's levels and values written into its slot.
+#![tactic(auto)]
+
 mod building;
 mod calls;
 mod lists;

@@ -1,4 +1,6 @@
 // Tests of STORE on small tensors of counts.
+#![tactic(auto)]
+
 #[cfg(test)]
 mod tests {
     use formats::{Compressed, Dense};

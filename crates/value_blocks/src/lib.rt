@@ -1,4 +1,6 @@
 // LOAD, MUL, ADD and SUM over streams by their numbers: each finds the tapes, computes, and records the new tape.
+#![tactic(auto)]
+
 mod combining;
 mod loading;
 mod recording;

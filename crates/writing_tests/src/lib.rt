@@ -1,4 +1,6 @@
 // Value tapes of depth 0 to 3 below coordinate tapes with empty fibers: with exactly enough keys, and with one too few.
+#![tactic(auto)]
+
 #[cfg(test)]
 mod tests {
     use results::ResultKey;
