@@ -5,7 +5,7 @@ pub returns : goal.returns
 returns g c =
     record {
       tapes = (refl, refl, refl);
-      empty-sums = λ K used. (refl, refl, refl, refl);
+      empty_sums = λ K used. (refl, refl, refl, refl);
       no_time = refl;
       accepted = (refl, refl);
       graph = refl;

@@ -28,10 +28,10 @@ returns-then-op-eq0 c =
       model = reads_model s decoded.End again;
     }
 
-pub returns-in-default : goal.returns-in-default
-returns-in-default c =
+pub returns-in_default : goal.returns-in_default
+returns-in_default c =
     let s = c.args.bytes.now in
-    let none = no_block s (sym c.operand-count.ensures ∙ c.in-default.is) in
+    let none = no_block s (sym c.operand_count.ensures ∙ c.in_default.is) in
     let again : Rereads s decoded.Unknown = λ d rest e. absurd (none d rest e) in
     record {
       begins = (none, λ rest e. c.if-op-eq0.false (ap (λ (x : List ℕ). get_or x 0 0) e));
@@ -42,7 +42,7 @@ returns-in-default c =
 pub returns-then-bytes-count : goal.returns-then-bytes-count
 returns-then-bytes-count c =
     let s = c.args.bytes.now in
-    let o : operands (get_or s 0 0) ≡ Some c.in-Some.count = sym c.operand-count.ensures ∙ c.in-Some.is in
+    let o : operands (get_or s 0 0) ≡ Some c.in-Some.count = sym c.operand_count.ensures ∙ c.in-Some.is in
     let cut = cut_off s c.in-Some.count o c.if-bytes-count.true in
     let again : Rereads s decoded.Unknown = λ d rest e. absurd (cut d rest e) in
     record {

@@ -4,8 +4,8 @@ use Rattle.docks.specs.Views.{entries}
 use Rattle.docks.proofs.Bests.{length_totals, total_at, no_time, first_found, not_missed}
 use Rattle.docks.proofs.answers.best_dock.Goals as goal
 
-pub returns-then-is-zero : goal.returns-then-is-zero
-returns-then-is-zero c = no_time (totals (entries c.args.table.now)) _ c.least-time-least.ensures.least (true-eqb _ _ c.if-is-zero.ensures)
+pub returns-then-is_zero : goal.returns-then-is_zero
+returns-then-is_zero c = no_time (totals (entries c.args.table.now)) _ c.least_time-least.ensures.least (true-eqb _ _ c.if-is_zero.ensures)
 
 pub loop-i-preserved : goal.loop-i-preserved
 loop-i-preserved c =
@@ -17,12 +17,12 @@ returns-then-total-from c =
     let ds = c.docks-dock-items.result.now in
     let same = c.docks-dock-items.ensures.value in
     let here = total_at ds _ same c.loop-i.i _ c.loop-i-test.true c.dock-item.is in
-    first_found (totals (entries c.args.table.now)) _ c.least-time-least.ensures.least c.least-time-least.result.fits (false-eqb _ _ c.if-is-zero.ensures)
+    first_found (totals (entries c.args.table.now)) _ c.least_time-least.ensures.least c.least_time-least.result.fits (false-eqb _ _ c.if-is_zero.ensures)
     c.loop-i.i (omega (arith, length_totals ds _ same)) (here ∙ sym c.total.ensures ∙ c.if-total-from.true ∙ c.from.ensures) c.loop-i.invariant
 
 pub returns : goal.returns
 returns c =
     let ds = c.docks-dock-items.result.now in
     let same = c.docks-dock-items.ensures.value in
-    absurd (not_missed (totals (entries c.args.table.now)) _ c.least-time-least.ensures.least c.least-time-least.result.fits (false-eqb _ _ c.if-is-zero.ensures)
+    absurd (not_missed (totals (entries c.args.table.now)) _ c.least_time-least.ensures.least c.least_time-least.result.fits (false-eqb _ _ c.if-is_zero.ensures)
     (λ k h. c.loop-i.invariant k (omega (arith, length_totals ds _ same))))

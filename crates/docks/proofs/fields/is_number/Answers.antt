@@ -7,5 +7,5 @@ none_is_no_number : (bs : List ℕ) → true ≡ eqb (length bs) 0 → false ≡
 none_is_no_number [] e = refl
 none_is_no_number (b ∷ bs) e = absurd (omega (arith, eqb-true (length (b ∷ bs)) 0 (sym e)))
 
-pub returns-else-not-is-empty : goal.returns-else-not-is-empty
-returns-else-not-is-empty c = ap not c.if-not-is-empty.false ∙ none_is_no_number c.args.field.now c.if-not-is-empty.ensures
+pub returns-else-not-is_empty : goal.returns-else-not-is_empty
+returns-else-not-is_empty c = ap not c.if-not-is_empty.false ∙ none_is_no_number c.args.field.now c.if-not-is_empty.ensures

@@ -9,27 +9,27 @@ pub loop-rest-init : goal.loop-rest-init
 loop-rest-init c = at_start _ c.args.text.now c.new-table.ensures
 
 pub push-requires : goal.push-requires
-push-requires c = omega (arith, few _ c.next-line.result.0.now _ c.in-ok-dock.ensures, c.len.ensures.value)
+push-requires c = omega (arith, few _ c.next_line.result.0.now _ c.in_ok-dock.ensures, c.len.ensures.value)
 
 pub loop-rest-smaller : goal.loop-rest-smaller
-loop-rest-smaller c = c.next-line.ensures.less (omega (arith, false-eqb _ 0 c.loop-rest-test.ensures))
+loop-rest-smaller c = c.next_line.ensures.less (omega (arith, false-eqb _ 0 c.loop-rest-test.ensures))
 
 pub loop-rest-preserved : goal.loop-rest-preserved
 loop-rest-preserved c =
     let es = entries c.loop-rest.table in
-    let line = c.next-line.result.0.now in
-    let next = c.next-line.ensures.first (omega (arith, false-eqb _ 0 c.loop-rest-test.ensures)) in
-    let said = c.in-ok-dock.ensures ∙ ap (λ n. says (n + 1) line) c.len.ensures.value in
-    one_more es c.loop-rest.rest.now c.args.text.now line c.next-line.result.1.now next c.loop-rest.invariant (entry_of c.in-ok-dock.dock) (entries c.push.new.self) said c.push.ensures
+    let line = c.next_line.result.0.now in
+    let next = c.next_line.ensures.first (omega (arith, false-eqb _ 0 c.loop-rest-test.ensures)) in
+    let said = c.in_ok-dock.ensures ∙ ap (λ n. says (n + 1) line) c.len.ensures.value in
+    one_more es c.loop-rest.rest.now c.args.text.now line c.next_line.result.1.now next c.loop-rest.invariant (entry_of c.in_ok-dock.dock) (entries c.push.new.self) said c.push.ensures
 
-pub returns-in-err-dock : goal.returns-in-err-dock
-returns-in-err-dock c =
+pub returns-in_err-dock : goal.returns-in_err-dock
+returns-in_err-dock c =
     let es = entries c.loop-rest.table in
-    let line = c.next-line.result.0.now in
-    let next = c.next-line.ensures.first (omega (arith, false-eqb _ 0 c.loop-rest-test.ensures)) in
-    let said = c.in-err-dock.ensures ∙ ap (λ n. says (n + 1) line) c.len.ensures.value in
-    let p = err_from_is_err_and c.from-residual.result c.from-residual.ensures.1 in
-    rw (p.1, p.2) (at_fault es c.loop-rest.rest.now c.args.text.now line c.next-line.result.1.now next c.loop-rest.invariant c.in-err-dock.field-0.0 said)
+    let line = c.next_line.result.0.now in
+    let next = c.next_line.ensures.first (omega (arith, false-eqb _ 0 c.loop-rest-test.ensures)) in
+    let said = c.in_err-dock.ensures ∙ ap (λ n. says (n + 1) line) c.len.ensures.value in
+    let p = err_from_is_err_and c.from_residual.result c.from_residual.ensures.1 in
+    rw (p.1, p.2) (at_fault es c.loop-rest.rest.now c.args.text.now line c.next_line.result.1.now next c.loop-rest.invariant c.in_err-dock.field-0.0 said)
 
 pub returns : goal.returns
 returns c = at_end _ c.loop-rest.rest.now c.args.text.now c.loop-rest.invariant (true-eqb _ 0 c.loop-rest-test.ensures)

@@ -8,13 +8,13 @@ use Rattle.levels.proofs.search.find.Goals as goal
 pub loop-low-init : goal.loop-low-init
 loop-low-init g c =
     let l = g.S.Formats.meaning c.args.number (size_of c.args.size) c.args.words.now in
-    let n = counted l c.args.p c.count.result c.unwrap-or-high.result c.count.ensures c.unwrap-or-high.ensures in
-    (omega arith, omega arith, λ a. left_all (fiber l c.args.p) c.args.c c.unwrap-or-high.result n)
+    let n = counted l c.args.p c.count.result c.unwrap_or-high.result c.count.ensures c.unwrap_or-high.ensures in
+    (omega arith, omega arith, λ a. left_all (fiber l c.args.p) c.args.c c.unwrap_or-high.result n)
 
-pub returns-in-default : goal.returns-in-default
-returns-in-default g c =
+pub returns-in_default : goal.returns-in_default
+returns-in_default g c =
     let l = g.S.Formats.meaning c.args.number (size_of c.args.size) c.args.words.now in
-    let past = untold (fiber l c.args.p) (c.loop-low.low + (c.loop-low.high - c.loop-low.low) / 2) c.in-default.ensures in
+    let past = untold (fiber l c.args.p) (c.loop-low.low + (c.loop-low.high - c.loop-low.low) / 2) c.in_default.ensures in
     absurd (omega arith)
 
 pub returns-then-coordinate-c : goal.returns-then-coordinate-c

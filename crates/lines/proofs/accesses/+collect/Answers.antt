@@ -8,8 +8,8 @@ use Rattle.lines.proofs.accesses.+collect.Goals as goal
 pub push-requires : goal.push-requires
 push-requires t c = fits_access _ _ _ _ _ c.args.into.now c.in-Access.is c.requires
 
-pub overflow-add-place : goal.overflow-add-place
-overflow-add-place t c = omega (arith, place_access _ _ _ _ _ c.args.into.now c.in-Access.is c.requires)
+pub overflow_add-place : goal.overflow_add-place
+overflow_add-place t c = omega (arith, place_access _ _ _ _ _ c.args.into.now c.in-Access.is c.requires)
 
 pub collect-requires : goal.collect-requires
 collect-requires t c =

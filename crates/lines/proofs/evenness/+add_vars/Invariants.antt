@@ -1,4 +1,4 @@
 use Rattle.lines.proofs.evenness.+add_vars.Given as goal
 
-abbrev pub decreases-add-vars : goal.decreases-add-vars
-decreases-add-vars l = l.i
+abbrev pub decreases-add_vars : goal.decreases-add_vars
+decreases-add_vars l = l.i

@@ -6,27 +6,27 @@ use Rattle.lines.proofs.NodeVars.{tied_left, tied_right}
 use Rattle.lines.proofs.Terms.{sign_inside, terms_other, terms_plus}
 use Rattle.lines.proofs.evenness.+lacking_term.Goals as goal
 
-pub lacking-term-before-requires : goal.lacking-term-before-requires
-lacking-term-before-requires t c =
+pub lacking_term-before-requires : goal.lacking_term-before-requires
+lacking_term-before-requires t c =
     let r = tied_left _ _ _ plus (λ a b. refl) (λ a b at h. h) _ _ (plus_joins _ _ _ _ _ c.in-Plus.is) c.requires.node in
     (omega (arith, c.decreases, r.0), (c.requires.short, r.1))
 
-pub has-left-requires : goal.has-left-requires
-has-left-requires t c =
+pub has_left-requires : goal.has_left-requires
+has_left-requires t c =
     let r = tied_right _ _ _ plus (λ a b. refl) (λ a b at h. h) _ _ (plus_joins _ _ _ _ _ c.in-Plus.is) c.requires.node in
     record { short = c.requires.short; node = r.1 }
 
-pub overflow-add-place : goal.overflow-add-place
-overflow-add-place t c = omega (arith, sign_inside _ _ _ _ _ _ c.in-Plus.is c.requires.node, c.requires.short)
+pub overflow_add-place : goal.overflow_add-place
+overflow_add-place t c = omega (arith, sign_inside _ _ _ _ _ _ c.in-Plus.is c.requires.node, c.requires.short)
 
-pub returns-then-has-left : goal.returns-then-has-left
-returns-then-has-left t c = terms_plus _ _ _ _ _ _ _ _ _ _ _ c.in-Plus.is c.lacking-term-before.ensures c.if-has-left.ensures (sym (or_next_none _))
+pub returns-then-has_left : goal.returns-then-has_left
+returns-then-has_left t c = terms_plus _ _ _ _ _ _ _ _ _ _ _ c.in-Plus.is c.lacking_term-before.ensures c.if-has_left.ensures (sym (or_next_none _))
 
-pub returns-else-has-left : goal.returns-else-has-left
-returns-else-has-left t c = terms_plus _ _ _ _ _ _ _ _ _ _ _ c.in-Plus.is c.lacking-term-before.ensures c.if-has-left.ensures c.either.ensures
+pub returns-else-has_left : goal.returns-else-has_left
+returns-else-has_left t c = terms_plus _ _ _ _ _ _ _ _ _ _ _ c.in-Plus.is c.lacking_term-before.ensures c.if-has_left.ensures c.either.ensures
 
-pub returns-then-has-left-2 : goal.returns-then-has-left-2
-returns-then-has-left-2 t c = terms_other _ _ _ _ _ _ c.in-default.not-Plus c.if-has-left-2.ensures
+pub returns-then-has_left-2 : goal.returns-then-has_left-2
+returns-then-has_left-2 t c = terms_other _ _ _ _ _ _ c.in_default.not-Plus c.if-has_left-2.ensures
 
-pub returns-else-has-left-2 : goal.returns-else-has-left-2
-returns-else-has-left-2 t c = terms_other _ _ _ _ _ _ c.in-default.not-Plus c.if-has-left-2.ensures
+pub returns-else-has_left-2 : goal.returns-else-has_left-2
+returns-else-has_left-2 t c = terms_other _ _ _ _ _ _ c.in_default.not-Plus c.if-has_left-2.ensures

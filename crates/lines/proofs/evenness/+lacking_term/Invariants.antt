@@ -1,4 +1,4 @@
 use Rattle.lines.proofs.evenness.+lacking_term.Given as goal
 
-abbrev pub decreases-lacking-term : goal.decreases-lacking-term
-decreases-lacking-term l = l.i
+abbrev pub decreases-lacking_term : goal.decreases-lacking_term
+decreases-lacking_term l = l.i

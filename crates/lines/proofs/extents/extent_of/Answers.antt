@@ -6,8 +6,8 @@ use Rattle.lines.specs.Sizes.{sized_of}
 use Rattle.lines.proofs.Sizing.{extent_found, extent_on, extent_none}
 use Rattle.lines.proofs.extents.extent_of.Goals as goal
 
-pub extent-at-requires : goal.extent-at-requires
-extent-at-requires c = All-get_or (λ e. Inside c.args.text.now e.vars) c.args.accesses.now _ _ (omega arith) c.requires
+pub extent_at-requires : goal.extent_at-requires
+extent_at-requires c = All-get_or (λ e. Inside c.args.text.now e.vars) c.args.accesses.now _ _ (omega arith) c.requires
 
 pub returns-in-Some : goal.returns-in-Some
 returns-in-Some c =
@@ -17,7 +17,7 @@ returns-in-Some c =
 pub loop-access-preserved : goal.loop-access-preserved
 loop-access-preserved c =
     let h : c.loop-access.access-index < length c.args.accesses.now = omega arith in
-    extent_on (sized_of (slots_of c.args.slots.now) c.args.text.now) c.args.accesses.now _ _ c.args.var _ c.loop-access.invariant h c.in-default.ensures
+    extent_on (sized_of (slots_of c.args.slots.now) c.args.text.now) c.args.accesses.now _ _ c.args.var _ c.loop-access.invariant h c.in_default.ensures
 
 pub returns : goal.returns
 returns c =

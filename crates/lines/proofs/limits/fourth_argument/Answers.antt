@@ -5,8 +5,8 @@ use Rattle.lines.specs.Limits.{crowded}
 use Rattle.lines.proofs.FirstFaults.{fault_found, fault_on, fault_none, fault_skip}
 use Rattle.lines.proofs.limits.fourth_argument.Goals as goal
 
-pub overflow-add-result-then-access-gt3 : goal.overflow-add-result-then-access-gt3
-overflow-add-result-then-access-gt3 c =
+pub overflow_add-result-then-access-gt3 : goal.overflow_add-result-then-access-gt3
+overflow_add-result-then-access-gt3 c =
     let h : c.loop-access.access-index < length c.args.accesses.now = omega arith in
     omega (arith, All-get_or (λ e. e.vars.place ≤ 257) c.args.accesses.now c.loop-access.access-index (record { place = 0; slot = 0; vars = record { place = 0; count = 0 } }) h c.requires.table)
 

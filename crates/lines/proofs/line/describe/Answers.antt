@@ -8,8 +8,8 @@ collect-requires c =
     let p = c.requires in
     root_fits c.args.text.now c.args.parsed.now p.0 p.1 p.2 (search rules) (record { list = []; len = 0 }) refl
 
-pub overflow-sub-result-2 : goal.overflow-sub-result-2
-overflow-sub-result-2 c = let p = c.requires in omega (arith, p.2.order, line_length c.args.text.now p.0 p.1)
+pub overflow_sub-result-2 : goal.overflow_sub-result-2
+overflow_sub-result-2 c = let p = c.requires in omega (arith, p.2.order, line_length c.args.text.now p.0 p.1)
 
 pub returns : goal.returns
 returns c = λ l h g. parsed_describes c.args.text.now c.args.parsed.now l h g (search rules) _ _ refl c.collect.ensures

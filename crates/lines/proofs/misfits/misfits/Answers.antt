@@ -14,4 +14,4 @@ pub returns : goal.returns
 returns c =
     let v = c.args.access.vars in
     let vs = vars_of c.args.text.now v in
-    c.repeats-one.ensures ∙ ap (λ b. not b || repeats vs) (c.if-not-fits.ensures vs (length_listed c.args.text.now v.place v.count))
+    c.repeats_one.ensures ∙ ap (λ b. not b || repeats vs) (c.if-not-fits.ensures vs (length_listed c.args.text.now v.place v.count))

@@ -21,14 +21,14 @@ returns g c =
     let more = needed_more rules (sizes t) i lv.format (size_of lv.size) (omega arith) is in
     let front = needed rules (take i (sizes t)) in
     let wide = rules.need lv.format (size_of lv.size) in
-    let start = c.start-of-part.result + c.words-of-before.result in
-    let end = c.start-of-part.result + c.words-of-through.result in
-    let starts : start ≡ base + min front size = omega (arith, c.start-of-part.ensures.start, c.words-of-before.ensures) in
-    let ends : end ≡ base + min (front + wide) size = omega (arith, c.start-of-part.ensures.start, c.words-of-through.ensures, more) in
+    let start = c.start_of-part.result + c.words_of-before.result in
+    let end = c.start_of-part.result + c.words_of-through.result in
+    let starts : start ≡ base + min front size = omega (arith, c.start_of-part.ensures.start, c.words_of-before.ensures) in
+    let ends : end ≡ base + min (front + wide) size = omega (arith, c.start_of-part.ensures.start, c.words_of-through.ensures, more) in
     record {
       is = is;
       ordered = omega arith;
-      within = omega (arith, c.start-of-part.ensures.start, c.start-of-part.ensures.within);
+      within = omega (arith, c.start_of-part.ensures.start, c.start_of-part.ensures.within);
       means = λ ws.
           ap (g.S.Formats.meaning lv.format (size_of lv.size)) (clipped base size front wide start end ws starts ends)
           ∙ sym (level_on rules g.S.Formats.meaning (sizes t) (part c.args.slot size ws) i lv.format (size_of lv.size) (omega arith) is);

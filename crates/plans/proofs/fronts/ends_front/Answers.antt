@@ -25,5 +25,5 @@ returns c =
     let z : d - 0 ≡ d = omega arith in
     let a = c.row-this.ensures.0 in
     let b = c.row-next.ensures.0 in
-    let e : c.is-same.result ≡ same (take d (nth_row r cs k)) (take d (nth_row r cs (k + 1))) = cc in
+    let e : c.is_same.result ≡ same (take d (nth_row r cs k)) (take d (nth_row r cs (k + 1))) = cc in
     ap not (e ∙ sym (next_row d r c.args.count cs (nth_row r cs k) k (omega arith)))

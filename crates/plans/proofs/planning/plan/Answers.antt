@@ -6,14 +6,14 @@ use Rattle.plans.proofs.Entries.{ordered_checked}
 use Rattle.plans.proofs.Refusals.{shaped, refused_shape, planned_entry, planned_room, planned}
 use Rattle.plans.proofs.planning.plan.Goals as goal
 
-pub returns-then-is-wrong-shape : goal.returns-then-is-wrong-shape
-returns-then-is-wrong-shape g c =
+pub returns-then-is_wrong_shape : goal.returns-then-is_wrong_shape
+returns-then-is_wrong_shape g c =
     record {
       few = tt;
       planned =
           refused_shape (slot_sizes c.args.room.level_words c.args.room.positions) (rules_of g.S.Formats.wants g.S.Formats.births)
           c.args.slot c.args.rank c.args.extents.now c.args.formats.now c.args.coordinates.now (map g.V.Semiring.reads c.args.values.now) (length c.args.values.now)
-          (length-map c.args.values.now g.V.Semiring.reads) (omega arith) (sym c.is-wrong-shape.ensures ∙ c.if-is-wrong-shape.true);
+          (length-map c.args.values.now g.V.Semiring.reads) (omega arith) (sym c.is_wrong_shape.ensures ∙ c.if-is_wrong_shape.true);
     }
 
 pub returns-in-Some : goal.returns-in-Some
@@ -24,18 +24,18 @@ returns-in-Some g c =
           planned_entry (slot_sizes c.args.room.level_words c.args.room.positions) (rules_of g.S.Formats.wants g.S.Formats.births)
           c.args.slot c.args.rank c.args.extents.now c.args.formats.now c.args.coordinates.now (map g.V.Semiring.reads c.args.values.now) (length c.args.values.now)
           (length-map c.args.values.now g.V.Semiring.reads) (omega arith)
-          (sym c.is-wrong-shape.ensures ∙ c.if-is-wrong-shape.false) c.in-Some.k c.in-Some.ensures;
+          (sym c.is_wrong_shape.ensures ∙ c.if-is_wrong_shape.false) c.in-Some.k c.in-Some.ensures;
     }
 
 pub measure-requires : goal.measure-requires
 measure-requires g c =
-    let s = shaped c.args.rank c.args.extents.now c.args.formats.now c.args.coordinates.now (length c.args.values.now) (sym c.is-wrong-shape.ensures ∙ c.if-is-wrong-shape.false) in
+    let s = shaped c.args.rank c.args.extents.now c.args.formats.now c.args.coordinates.now (length c.args.values.now) (sym c.is_wrong_shape.ensures ∙ c.if-is_wrong_shape.false) in
     record {
       shallow = omega (arith, s.shallow, s.extents);
       paired = s.formats ∙ sym s.extents;
       narrow = s.narrow;
       whole = s.whole ∙ ap (λ r. r * length c.args.values.now) (sym s.extents);
-      ordered = ordered_checked c.args.extents.now _ (sym c.in-default.ensures);
+      ordered = ordered_checked c.args.extents.now _ (sym c.in_default.ensures);
     }
 
 pub returns-in-Some-measure : goal.returns-in-Some-measure
@@ -46,7 +46,7 @@ returns-in-Some-measure g c =
           planned (slot_sizes c.args.room.level_words c.args.room.positions) (rules_of g.S.Formats.wants g.S.Formats.births)
           c.args.slot c.args.rank c.args.extents.now c.args.formats.now c.args.coordinates.now (map g.V.Semiring.reads c.args.values.now) (length c.args.values.now)
           (length-map c.args.values.now g.V.Semiring.reads) (omega arith)
-          (sym c.is-wrong-shape.ensures ∙ c.if-is-wrong-shape.false) c.in-default.ensures c.in-Some-measure.tensor c.in-Some-measure.ensures.sized;
+          (sym c.is_wrong_shape.ensures ∙ c.if-is_wrong_shape.false) c.in_default.ensures c.in-Some-measure.tensor c.in-Some-measure.ensures.sized;
     }
 
 pub returns-in-None : goal.returns-in-None
@@ -57,5 +57,5 @@ returns-in-None g c =
           planned_room (slot_sizes c.args.room.level_words c.args.room.positions) (rules_of g.S.Formats.wants g.S.Formats.births)
           c.args.slot c.args.rank c.args.extents.now c.args.formats.now c.args.coordinates.now (map g.V.Semiring.reads c.args.values.now) (length c.args.values.now)
           (length-map c.args.values.now g.V.Semiring.reads) (omega arith)
-          (sym c.is-wrong-shape.ensures ∙ c.if-is-wrong-shape.false) c.in-default.ensures c.in-None.ensures.sized;
+          (sym c.is_wrong_shape.ensures ∙ c.if-is_wrong_shape.false) c.in_default.ensures c.in-None.ensures.sized;
     }

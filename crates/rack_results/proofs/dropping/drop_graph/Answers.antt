@@ -4,10 +4,10 @@ use Rattle.rack_state.specs.Snapshots.{view}
 use Rattle.rack_results.proofs.Graphs.{drop_none, drop-loaded}
 use Rattle.rack_results.proofs.dropping.drop_graph.Goals as goal
 
-pub returns-in-default : goal.returns-in-default
-returns-in-default g c = record {
+pub returns-in_default : goal.returns-in_default
+returns-in_default g c = record {
   does =
-      drop_none g.V.Semiring.algebra g.V.Semiring.reads (rules_of g.S.Formats.wants g.S.Formats.births) g.S.Formats.meaning (view c.args.rack.now) c.in-default.is;
+      drop_none g.V.Semiring.algebra g.V.Semiring.reads (rules_of g.S.Formats.wants g.S.Formats.births) g.S.Formats.meaning (view c.args.rack.now) c.in_default.is;
   freed = tt;
 }
 

@@ -8,10 +8,10 @@ use Rattle.rack_slots.proofs.Frames.{in-same-room}
 use Rattle.rack_slots.proofs.Stores.{store_busy, store-refused, store_accepted}
 use Rattle.rack_slots.proofs.storing.store.Goals as goal
 
-pub returns-then-is-busy : goal.returns-then-is-busy
-returns-then-is-busy g c =
+pub returns-then-is_busy : goal.returns-then-is_busy
+returns-then-is_busy g c =
     store_busy g.V.Semiring.algebra g.V.Semiring.reads (rules_of g.S.Formats.wants g.S.Formats.births) g.S.Formats.meaning _ (view c.args.rack.now)
-    c.if-is-busy.ensures
+    c.if-is_busy.ensures
 
 pub returns-in-Ok : goal.returns-in-Ok
 returns-in-Ok g c =
@@ -21,7 +21,7 @@ returns-in-Ok g c =
     let e = c.in-Ok.ensures in
     in-same-room g.V.Semiring.algebra g.V.Semiring.reads rules g.S.Formats.meaning (STORE q) s (stored c.in-Ok.used) (state_of c.store.new.areas) c.args.rack.now.tensors.room
     c.store.new.areas.room e.room
-    (store_accepted g.V.Semiring.algebra g.V.Semiring.reads rules g.S.Formats.meaning q s c.if-is-busy.ensures g.S.Formats.kept g.met.S.Formats.lawful refl
+    (store_accepted g.V.Semiring.algebra g.V.Semiring.reads rules g.S.Formats.meaning q s c.if-is_busy.ensures g.S.Formats.kept g.met.S.Formats.lawful refl
     c.args.rack.now.tensors.room.few_positions c.in-Ok.used (state_of c.store.new.areas) e.stored)
 
 pub returns-in-Err : goal.returns-in-Err
@@ -32,5 +32,5 @@ returns-in-Err g c =
     let e = c.in-Err.ensures in
     in-same-room g.V.Semiring.algebra g.V.Semiring.reads rules g.S.Formats.meaning (STORE q) s (refused (fault_of c.in-Err.fault)) (state_of c.store.new.areas)
     c.args.rack.now.tensors.room c.store.new.areas.room e.room
-    (store-refused g.V.Semiring.algebra g.V.Semiring.reads rules g.S.Formats.meaning q s c.if-is-busy.ensures (fault_of c.in-Err.fault) (state_of c.store.new.areas)
+    (store-refused g.V.Semiring.algebra g.V.Semiring.reads rules g.S.Formats.meaning q s c.if-is_busy.ensures (fault_of c.in-Err.fault) (state_of c.store.new.areas)
     e.stored.0 e.stored.1)

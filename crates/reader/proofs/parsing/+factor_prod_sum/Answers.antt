@@ -3,68 +3,68 @@ use Rattle.std.proofs.lemmas.Result.{err_from_is_err_and}
 use Rattle.reader.proofs.Parts.{a_times, a_plus, join_read, join_grown, join_failed, no_factor, in_access, access_long, an_access, in_group, unclosed, a_group}
 use Rattle.reader.proofs.parsing.+factor_prod_sum.Goals as goal
 
-pub factor-returns-in-err-end : goal.factor-returns-in-err-end
-factor-returns-in-err-end t c =
-    let l = c.if-sees-slot.ensures in
-    let p = err_from_is_err_and c.from-residual.result c.from-residual.ensures.1 in
-    rw (p.1, p.2) (in_access _ _ l.0 l.1 _ c.in-err-end.ensures)
+pub factor-returns-in_err-end : goal.factor-returns-in_err-end
+factor-returns-in_err-end t c =
+    let l = c.if-sees_slot.ensures in
+    let p = err_from_is_err_and c.from_residual.result c.from_residual.ensures.1 in
+    rw (p.1, p.2) (in_access _ _ l.0 l.1 _ c.in_err-end.ensures)
 
-pub factor-overflow-sub-end-then-sees-slot : goal.factor-overflow-sub-end-then-sees-slot
-factor-overflow-sub-end-then-sees-slot t c =
-    let l = c.if-sees-slot.ensures in
-    access_long _ _ l.0 l.1 _ c.in-ok-end.ensures
+pub factor-overflow_sub-end-then-sees_slot : goal.factor-overflow_sub-end-then-sees_slot
+factor-overflow_sub-end-then-sees_slot t c =
+    let l = c.if-sees_slot.ensures in
+    access_long _ _ l.0 l.1 _ c.in_ok-end.ensures
 
-pub factor-returns-then-sees-slot : goal.factor-returns-then-sees-slot
-factor-returns-then-sees-slot t c =
-    let l = c.if-sees-slot.ensures in
-    an_access _ _ l.0 l.1 _ c.in-ok-end.ensures _ _ _ c.push-root.ensures
+pub factor-returns-then-sees_slot : goal.factor-returns-then-sees_slot
+factor-returns-then-sees_slot t c =
+    let l = c.if-sees_slot.ensures in
+    an_access _ _ l.0 l.1 _ c.in_ok-end.ensures _ _ _ c.push-root.ensures
 
 pub factor-returns-then-not-sees : goal.factor-returns-then-not-sees
-factor-returns-then-not-sees t c = no_factor _ _ c.requires.within c.if-sees-slot.ensures c.if-not-sees.ensures
+factor-returns-then-not-sees t c = no_factor _ _ c.requires.within c.if-sees_slot.ensures c.if-not-sees.ensures
 
-pub factor-returns-in-err-inner : goal.factor-returns-in-err-inner
-factor-returns-in-err-inner t c =
+pub factor-returns-in_err-inner : goal.factor-returns-in_err-inner
+factor-returns-in_err-inner t c =
     let o = c.if-not-sees.ensures in
-    let p = err_from_is_err_and c.from-residual-in-err-inner.result c.from-residual-in-err-inner.ensures.1 in
-    rw (p.1, p.2) (in_group _ _ o.0 o.1 _ c.in-err-inner.ensures)
+    let p = err_from_is_err_and c.from_residual-in_err-inner.result c.from_residual-in_err-inner.ensures.1 in
+    rw (p.1, p.2) (in_group _ _ o.0 o.1 _ c.in_err-inner.ensures)
 
 pub factor-returns-then-not-sees-2 : goal.factor-returns-then-not-sees-2
 factor-returns-then-not-sees-2 t c =
     let o = c.if-not-sees.ensures in
-    unclosed _ _ o.0 o.1 _ _ _ c.in-ok-inner.ensures c.if-not-sees-2.ensures
+    unclosed _ _ o.0 o.1 _ _ _ c.in_ok-inner.ensures c.if-not-sees-2.ensures
 
 pub factor-returns : goal.factor-returns
 factor-returns t c =
     let o = c.if-not-sees.ensures in
     let e = c.if-not-sees-2.ensures in
-    a_group _ _ o.0 o.1 _ _ _ c.in-ok-inner.ensures _ _ e.0 e.1 c.push-root-2.ensures
+    a_group _ _ o.0 o.1 _ _ _ c.in_ok-inner.ensures _ _ e.0 e.1 c.push-root-2.ensures
 
-pub prod-returns-in-err-right : goal.prod-returns-in-err-right
-prod-returns-in-err-right t c =
+pub prod-returns-in_err-right : goal.prod-returns-in_err-right
+prod-returns-in_err-right t c =
     let o = c.factors-test.ensures in
-    let p = err_from_is_err_and c.from-residual-in-err-right.result c.from-residual-in-err-right.ensures.1 in
-    rw (p.1, p.2) (join_failed a_times _ _ _ _ c.factors.invariant.0 o.0 o.1 _ c.in-err-right.ensures)
+    let p = err_from_is_err_and c.from_residual-in_err-right.result c.from_residual-in_err-right.ensures.1 in
+    rw (p.1, p.2) (join_failed a_times _ _ _ _ c.factors.invariant.0 o.0 o.1 _ c.in_err-right.ensures)
 
 pub prod-factors-preserved : goal.prod-factors-preserved
 prod-factors-preserved t c =
     let o = c.factors-test.ensures in
-    let g = c.in-ok-right.ensures in
+    let g = c.in_ok-right.ensures in
     let i = c.factors.invariant in (
       join_read a_times _ _ _ _ i.0 o.0 o.1 _ _ _ _ g c.push-root.ensures,
       join_grown a_times _ _ _ _ i.0 o.0 o.1 _ _ _ _ _ _ i.1 g c.push-root.ensures,
       omega (arith, i.2, g.grown.few, c.push-root.ensures.len),
     )
 
-pub sum-returns-in-err-right : goal.sum-returns-in-err-right
-sum-returns-in-err-right t c =
+pub sum-returns-in_err-right : goal.sum-returns-in_err-right
+sum-returns-in_err-right t c =
     let o = c.terms-test.ensures in
-    let p = err_from_is_err_and c.from-residual-in-err-right.result c.from-residual-in-err-right.ensures.1 in
-    rw (p.1, p.2) (join_failed a_plus _ _ _ _ c.terms.invariant.0 o.0 o.1 _ c.in-err-right.ensures)
+    let p = err_from_is_err_and c.from_residual-in_err-right.result c.from_residual-in_err-right.ensures.1 in
+    rw (p.1, p.2) (join_failed a_plus _ _ _ _ c.terms.invariant.0 o.0 o.1 _ c.in_err-right.ensures)
 
 pub sum-terms-preserved : goal.sum-terms-preserved
 sum-terms-preserved t c =
     let o = c.terms-test.ensures in
-    let g = c.in-ok-right.ensures in
+    let g = c.in_ok-right.ensures in
     let i = c.terms.invariant in (
       join_read a_plus _ _ _ _ i.0 o.0 o.1 _ _ _ _ g c.push-root.ensures,
       join_grown a_plus _ _ _ _ i.0 o.0 o.1 _ _ _ _ _ _ i.1 g c.push-root.ensures,

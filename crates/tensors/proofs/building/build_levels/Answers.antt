@@ -21,8 +21,8 @@ loop-i-init g c =
           c.requires.sized.2 (λ k h. c.requires.roots k (omega (arith, rows_long (length es) n c.args.coordinates.now))),
     )
 
-pub add-level-requires : goal.add-level-requires
-add-level-requires g c =
+pub add_level-requires : goal.add_level-requires
+add_level-requires g c =
     let rules = rules_of g.S.Formats.wants g.S.Formats.births in
     let es = c.args.extents.now in
     let fs = c.loop-i.invariant.0 in
@@ -46,8 +46,8 @@ add-level-requires g c =
       room = omega (arith, c.requires.room, its_room rules g.S.Formats.meaning g.S.Formats.kept ls es fs css c.args.words.now c.requires.ordered c.loop-i.i c.loop-i.start c.loop-i.owners c.loop-i.words same c.loop-i.invariant.2 (omega (arith, c.requires.rank)) c.loop-i.invariant.1 (omega (arith, all)) lv.format (size_of lv.size) is);
     }
 
-pub overflow-add-start : goal.overflow-add-start
-overflow-add-start g c =
+pub overflow_add-start : goal.overflow_add-start
+overflow_add-start g c =
     let rules = rules_of g.S.Formats.wants g.S.Formats.births in
     let es = c.args.extents.now in
     let fs = c.loop-i.invariant.0 in
@@ -76,11 +76,11 @@ loop-i-preserved g c =
     let m : length c.loop-i.owners ≡ n = omega arith in
     let s = size_of lv.size in
     let k = lv.format in
-    let added = subst (λ x. Added (rules.need k s) (g.S.Formats.kept k s) (g.S.Formats.meaning k s) c.loop-i.i c.loop-i.start (rows_of (length es) x cs) c.loop-i.owners c.loop-i.words c.add-level.new.owners c.add-level.new.words) m c.add-level.ensures in (
+    let added = subst (λ x. Added (rules.need k s) (g.S.Formats.kept k s) (g.S.Formats.meaning k s) c.loop-i.i c.loop-i.start (rows_of (length es) x cs) c.loop-i.owners c.loop-i.words c.add_level.new.owners c.add_level.new.words) m c.add_level.ensures in (
       fs,
       c.loop-i.invariant.1,
-      subst (λ z. Standing rules g.S.Formats.meaning g.S.Formats.kept ls es fs css c.args.words.now (c.loop-i.i + 1) (c.loop-i.start + z) c.add-level.new.owners c.add-level.new.words) (sym c.need-start.ensures)
-          (standing_more rules g.S.Formats.meaning g.S.Formats.kept ls es fs css c.args.words.now c.requires.ordered c.loop-i.i c.loop-i.start c.loop-i.owners c.loop-i.words same c.loop-i.invariant.2 (omega (arith, c.requires.rank)) c.loop-i.invariant.1 (omega (arith, all)) lv.format (size_of lv.size) is c.add-level.new.owners c.add-level.new.words added (g.met.S.Formats.lawful k s _ added.sound)),
+      subst (λ z. Standing rules g.S.Formats.meaning g.S.Formats.kept ls es fs css c.args.words.now (c.loop-i.i + 1) (c.loop-i.start + z) c.add_level.new.owners c.add_level.new.words) (sym c.need-start.ensures)
+          (standing_more rules g.S.Formats.meaning g.S.Formats.kept ls es fs css c.args.words.now c.requires.ordered c.loop-i.i c.loop-i.start c.loop-i.owners c.loop-i.words same c.loop-i.invariant.2 (omega (arith, c.requires.rank)) c.loop-i.invariant.1 (omega (arith, all)) lv.format (size_of lv.size) is c.add_level.new.owners c.add_level.new.words added (g.met.S.Formats.lawful k s _ added.sound)),
     )
 
 pub returns : goal.returns

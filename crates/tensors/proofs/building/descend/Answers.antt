@@ -18,12 +18,12 @@ loop-k-preserved g c =
     let l = g.S.Formats.meaning c.args.level.format (size_of c.args.level.size) c.args.words.now in
     let k = c.loop-k.k in
     let os = c.loop-k.owners in
-    let v = c.unwrap-or.result in
+    let v = c.unwrap_or.result in
     let was = c.loop-k.invariant.1 k (omega arith) in
     let step = ap₂ (λ p x. child (fiber l p) x) was c.coordinate-c.ensures in (
       below_more (λ q. child (fiber l (get_or c.args.owners.now q 0)) (get_or (nth_row c.args.rank c.args.coordinates.now q) c.args.depth 0) ≡ Some (get_or (set os k v) q 0)) k
           (λ q h. c.loop-k.invariant.0 q h ∙ ap Some (sym (get_or-set_other os k q v 0 (λ e. omega arith))))
-          (answered c.find.result _ v (c.requires.held k (omega arith)).0 (c.find.ensures.exact (c.requires.ascends (get_or os k 0)) ∙ step) c.unwrap-or.ensures (c.requires.held k (omega arith)).1
+          (answered c.find.result _ v (c.requires.held k (omega arith)).0 (c.find.ensures.exact (c.requires.ascends (get_or os k 0)) ∙ step) c.unwrap_or.ensures (c.requires.held k (omega arith)).1
           ∙ ap Some (sym (get_or-set_same os k v 0 (omega arith)))),
       λ q h. get_or-set_other os k q v 0 (λ e. omega arith) ∙ c.loop-k.invariant.1 q (omega arith),
     )

@@ -19,12 +19,12 @@ loop-i-preserved g c =
     let lv = get_or t.levels i c.index-tensor-i.result in
     let all : length ls ≡ t.rank = length-map (take t.rank t.levels) level_of ∙ length-take-le t.rank t.levels (omega arith) in
     let is = level_at t.levels t.rank i c.index-tensor-i.result (omega arith) all in
-    let ends = c.end-of-end.ensures ∙ ap (λ n. min (c.loop-i.start + n) (length ws)) c.need-need.ensures in (
-      omega (arith, c.end-of-end.ensures),
-      λ k. kept_rest rules g.S.Formats.meaning g.S.Formats.kept ls ws c.args.coordinates.now i c.loop-i.start c.end-of-end.result lv.format (size_of lv.size) (omega (arith, all)) is c.loop-i.invariant.0 ends (c.loop-i.invariant.1 k),
+    let ends = c.end_of-end.ensures ∙ ap (λ n. min (c.loop-i.start + n) (length ws)) c.need-need.ensures in (
+      omega (arith, c.end_of-end.ensures),
+      λ k. kept_rest rules g.S.Formats.meaning g.S.Formats.kept ls ws c.args.coordinates.now i c.loop-i.start c.end_of-end.result lv.format (size_of lv.size) (omega (arith, all)) is c.loop-i.invariant.0 ends (c.loop-i.invariant.1 k),
       λ k.
-          let here = kept_here rules g.S.Formats.meaning g.S.Formats.kept ls ws c.args.coordinates.now i c.loop-i.start c.end-of-end.result lv.format (size_of lv.size) (omega (arith, all)) is c.loop-i.invariant.0 ends (c.loop-i.invariant.1 k) in
-          reached_step rules g.S.Formats.meaning g.S.Formats.kept ls ws c.args.coordinates.now i c.loop-i.start c.end-of-end.result lv.format (size_of lv.size) (omega (arith, all)) is c.loop-i.invariant.0 ends
+          let here = kept_here rules g.S.Formats.meaning g.S.Formats.kept ls ws c.args.coordinates.now i c.loop-i.start c.end_of-end.result lv.format (size_of lv.size) (omega (arith, all)) is c.loop-i.invariant.0 ends (c.loop-i.invariant.1 k) in
+          reached_step rules g.S.Formats.meaning g.S.Formats.kept ls ws c.args.coordinates.now i c.loop-i.start c.end_of-end.result lv.format (size_of lv.size) (omega (arith, all)) is c.loop-i.invariant.0 ends
           c.loop-i.reference c.step-reference.result (omega (arith, c.requires))
           (c.step-reference.ensures (lawful_ascends _ _ _ _ (g.met.S.Formats.lawful lv.format (size_of lv.size) _ here))) ∙ c.loop-i.invariant.2 k,
     )

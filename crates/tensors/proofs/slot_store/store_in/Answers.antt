@@ -12,8 +12,8 @@ use Rattle.plans.proofs.Refusals.{accepts, its_sizes, roomy}
 use Rattle.tensors.specs.Stored.{Written}
 use Rattle.tensors.proofs.slot_store.store_in.Goals as goal
 
-pub write-tensor-requires : goal.write-tensor-requires
-write-tensor-requires g c =
+pub write_tensor-requires : goal.write_tensor-requires
+write_tensor-requires g c =
     let rules = rules_of g.S.Formats.wants g.S.Formats.births in
     let z = slot_sizes c.args.room.level_words c.args.room.positions in
     let es = c.args.extents.now in
@@ -33,7 +33,7 @@ write-tensor-requires g c =
       words_area = c.requires.words_area;
       values_area = c.requires.values_area;
       rank = p.1 ∙ r;
-      scratch-area = c.in-Ok.ensures.few;
+      scratch_area = c.in-Ok.ensures.few;
       whole = a.shape.whole ∙ ap (λ x. x * n) r;
       few = c.in-Ok.ensures.few;
       ordered = subst (λ x. Ordered es (rows_of x n cs)) r a.ordered;
@@ -68,6 +68,6 @@ returns-in-Ok g c =
       uses = refl;
       replaced = c.replace.ensures;
       written =
-          subst (λ t. Then (sizes_of rules q) c.in-Ok.tensor.positions t c.args.words.now c.args.values.now c.write-tensor.new.words c.write-tensor.new.values) same-tensor
-          (subst (λ ls. Then ls c.in-Ok.tensor.positions (record { extents = es; entries = entries_of (length es) cs vs }) c.args.words.now c.args.values.now c.write-tensor.new.words c.write-tensor.new.values) p.2 c.write-tensor.ensures);
+          subst (λ t. Then (sizes_of rules q) c.in-Ok.tensor.positions t c.args.words.now c.args.values.now c.write_tensor.new.words c.write_tensor.new.values) same-tensor
+          (subst (λ ls. Then ls c.in-Ok.tensor.positions (record { extents = es; entries = entries_of (length es) cs vs }) c.args.words.now c.args.values.now c.write_tensor.new.words c.write_tensor.new.values) p.2 c.write_tensor.ensures);
     }

@@ -12,13 +12,13 @@ use Rattle.tensors.specs.Stored.{tensor_at}
 use Rattle.tensors.proofs.Holdings.{all_held, positions_below}
 use Rattle.tensors.proofs.storing.write_tensor.Goals as goal
 
-pub write-levels-requires : goal.write-levels-requires
-write-levels-requires g c =
+pub write_levels-requires : goal.write_levels-requires
+write_levels-requires g c =
     let rules = rules_of g.S.Formats.wants g.S.Formats.births in
     let es = c.args.extents.now in
     let cs = c.args.coordinates.now in
     let n = length c.args.entries.now in
-    let m : n ≡ length (take (n - 0) c.args.scratch.now) = sym (length-take-le (n - 0) c.args.scratch.now (omega (arith, c.requires.scratch-area)) ∙ (let z : n - 0 ≡ n = omega arith in z)) in
+    let m : n ≡ length (take (n - 0) c.args.scratch.now) = sym (length-take-le (n - 0) c.args.scratch.now (omega (arith, c.requires.scratch_area)) ∙ (let z : n - 0 ≡ n = omega arith in z)) in
     record {
       in_range = c.requires.in_range;
       small = c.args.room.few_words;
@@ -31,14 +31,14 @@ write-levels-requires g c =
       room = c.requires.words_fit;
     }
 
-pub write-values-requires : goal.write-values-requires
-write-values-requires g c =
+pub write_values-requires : goal.write_values-requires
+write_values-requires g c =
     let rules = rules_of g.S.Formats.wants g.S.Formats.births in
     let es = c.args.extents.now in
     let n = length c.args.entries.now in
-    let m : length (take (n - 0) c.args.scratch.now) ≡ n = length-take-le (n - 0) c.args.scratch.now (omega (arith, c.requires.scratch-area)) ∙ (let z : n - 0 ≡ n = omega arith in z) in
-    let raised = subst (λ x. Raised rules g.S.Formats.meaning g.S.Formats.kept (sizes c.args.tensor) es (rows_of (length es) x c.args.coordinates.now) (part c.args.slot c.args.room.level_words c.args.words.now) c.write-levels.new.positions (part c.args.slot c.args.room.level_words c.write-levels.new.words)) m c.write-levels.ensures.raised in
-    let long : length c.write-levels.new.positions ≡ n = c.write-levels.auto.positions ∙ m in
+    let m : length (take (n - 0) c.args.scratch.now) ≡ n = length-take-le (n - 0) c.args.scratch.now (omega (arith, c.requires.scratch_area)) ∙ (let z : n - 0 ≡ n = omega arith in z) in
+    let raised = subst (λ x. Raised rules g.S.Formats.meaning g.S.Formats.kept (sizes c.args.tensor) es (rows_of (length es) x c.args.coordinates.now) (part c.args.slot c.args.room.level_words c.args.words.now) c.write_levels.new.positions (part c.args.slot c.args.room.level_words c.write_levels.new.words)) m c.write_levels.ensures.raised in
+    let long : length c.write_levels.new.positions ≡ n = c.write_levels.auto.positions ∙ m in
     record {
       in_range = c.requires.in_range;
       small = omega (arith, c.args.room.few_positions);
@@ -50,8 +50,8 @@ write-values-requires g c =
             arith,
             c.requires.used,
             positions_below g.V.Semiring.algebra.zero es c.args.coordinates.now (map g.V.Semiring.reads c.args.entries.now) n (length-map c.args.entries.now g.V.Semiring.reads) c.requires.ordered
-                (levels_on rules g.S.Formats.meaning (sizes c.args.tensor) (part c.args.slot c.args.room.level_words c.write-levels.new.words)) _ raised.stacked
-                c.write-levels.new.positions long (λ m i. raised.led m (omega (arith, rows_long (length es) n c.args.coordinates.now))) k (omega (arith, long)),
+                (levels_on rules g.S.Formats.meaning (sizes c.args.tensor) (part c.args.slot c.args.room.level_words c.write_levels.new.words)) _ raised.stacked
+                c.write_levels.new.positions long (λ m i. raised.led m (omega (arith, rows_long (length es) n c.args.coordinates.now))) k (omega (arith, long)),
           );
     }
 
@@ -63,18 +63,18 @@ returns g c =
     let cs = c.args.coordinates.now in
     let vs = map g.V.Semiring.reads c.args.entries.now in
     let n = length c.args.entries.now in
-    let m : length (take (n - 0) c.args.scratch.now) ≡ n = length-take-le (n - 0) c.args.scratch.now (omega (arith, c.requires.scratch-area)) ∙ (let z : n - 0 ≡ n = omega arith in z) in
-    let raised = subst (λ x. Raised rules g.S.Formats.meaning g.S.Formats.kept (sizes c.args.tensor) es (rows_of (length es) x c.args.coordinates.now) (part c.args.slot c.args.room.level_words c.args.words.now) c.write-levels.new.positions (part c.args.slot c.args.room.level_words c.write-levels.new.words)) m c.write-levels.ensures.raised in
-    let long : length c.write-levels.new.positions ≡ n = c.write-levels.auto.positions ∙ m in
-    let ls = levels_on rules g.S.Formats.meaning (sizes c.args.tensor) (part c.args.slot c.args.room.level_words c.write-levels.new.words) in
+    let m : length (take (n - 0) c.args.scratch.now) ≡ n = length-take-le (n - 0) c.args.scratch.now (omega (arith, c.requires.scratch_area)) ∙ (let z : n - 0 ≡ n = omega arith in z) in
+    let raised = subst (λ x. Raised rules g.S.Formats.meaning g.S.Formats.kept (sizes c.args.tensor) es (rows_of (length es) x c.args.coordinates.now) (part c.args.slot c.args.room.level_words c.args.words.now) c.write_levels.new.positions (part c.args.slot c.args.room.level_words c.write_levels.new.words)) m c.write_levels.ensures.raised in
+    let long : length c.write_levels.new.positions ≡ n = c.write_levels.auto.positions ∙ m in
+    let ls = levels_on rules g.S.Formats.meaning (sizes c.args.tensor) (part c.args.slot c.args.room.level_words c.write_levels.new.words) in
     record {
-      words_before = c.write-levels.ensures.before;
-      words_behind = c.write-levels.ensures.behind;
-      values_before = c.write-values.ensures.before;
-      values_behind = c.write-values.ensures.behind;
+      words_before = c.write_levels.ensures.before;
+      words_behind = c.write_levels.ensures.behind;
+      values_before = c.write_values.ensures.before;
+      values_behind = c.write_values.ensures.behind;
       sound = raised.sound;
-      holds = subst (λ x. Holds zero (tensor_at es cs vs) (record { levels = ls; values = x })) (sym c.write-values.ensures.filled)
+      holds = subst (λ x. Holds zero (tensor_at es cs vs) (record { levels = ls; values = x })) (sym c.write_values.ensures.filled)
           (all_held zero es cs vs n (length-map c.args.entries.now g.V.Semiring.reads) c.requires.ordered ls c.args.tensor.positions
-          (subst (λ m. Stacked es 1 ls m) (sym c.requires.used) raised.stacked) c.write-levels.new.positions long
+          (subst (λ m. Stacked es 1 ls m) (sym c.requires.used) raised.stacked) c.write_levels.new.positions long
           (λ m i. raised.led m (omega (arith, rows_long (length es) n cs))));
     }

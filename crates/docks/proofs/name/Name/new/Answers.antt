@@ -6,4 +6,4 @@ copied : (field s : List ℕ) (rest : List ℕ) → s ≡ field → take (length
 copied field s rest e = ap (λ t. take (length field) (t ++ rest)) e ∙ take_at field rest _ refl
 
 pub returns : goal.returns
-returns c = (sym c.if-not-is-name.ensures, copied c.args.field.now _ _ c.copy-from-slice.ensures.after)
+returns c = (sym c.if-not-is_name.ensures, copied c.args.field.now _ _ c.copy_from_slice.ensures.after)

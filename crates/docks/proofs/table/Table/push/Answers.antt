@@ -9,8 +9,8 @@ listed c = omega (arith, length_entries c.args.self.now, c.args.self.now.room)
 pub bounds-self-self : goal.bounds-self-self
 bounds-self-self c = omega (arith, length_entries c.args.self.now)
 
-pub invariant-of-self : goal.invariant-of-self
-invariant-of-self c = (length-set c.args.self.now.docks _ _ ∙ c.args.self.now.room, (omega (arith, length_entries c.args.self.now), tt))
+pub invariant_of-self : goal.invariant_of-self
+invariant_of-self c = (length-set c.args.self.now.docks _ _ ∙ c.args.self.now.room, (omega (arith, length_entries c.args.self.now), tt))
 
 pub returns : goal.returns
 returns c = pushed c.args.self.now.docks c.args.self.now.count c.args.dock (omega (arith, length_entries c.args.self.now, c.args.self.now.room))

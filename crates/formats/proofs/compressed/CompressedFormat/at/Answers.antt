@@ -7,8 +7,8 @@ use Rattle.formats.proofs.compressed.CompressedFormat.at.Goals as goal
 pub returns-then-p-size : goal.returns-then-p-size
 returns-then-p-size c = rows_at_none _ _ _ _ _ c.if-p-size.true
 
-pub returns-then-n-saturating-sub : goal.returns-then-n-saturating-sub
-returns-then-n-saturating-sub c =
+pub returns-then-n-saturating_sub : goal.returns-then-n-saturating_sub
+returns-then-n-saturating_sub c =
     let ws = c.args.words.now in
     let p = c.args.p in
     let le : position ws (p + 1) - position ws p ≤ c.args.n = omega arith in

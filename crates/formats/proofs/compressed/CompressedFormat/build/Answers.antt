@@ -7,8 +7,8 @@ pub returns : goal.returns
 returns c =
     let s = size_of c.args.size in
     let ws = c.args.words.now in
-    let after = c.sort-by-owner.new.words in
+    let after = c.sort_by_owner.new.words in
     record {
-      outcome = compressed_built s c.args.owners.now c.args.coordinates.now c.requires ws after (omega arith) (omega arith) c.sort-by-owner.ensures;
-      exact = compressed_laid s c.args.owners.now c.args.coordinates.now c.requires ws after (omega arith) (omega arith) c.sort-by-owner.ensures;
+      outcome = compressed_built s c.args.owners.now c.args.coordinates.now c.requires ws after (omega arith) (omega arith) c.sort_by_owner.ensures;
+      exact = compressed_laid s c.args.owners.now c.args.coordinates.now c.requires ws after (omega arith) (omega arith) c.sort_by_owner.ensures;
     }

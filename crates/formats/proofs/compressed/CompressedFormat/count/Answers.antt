@@ -10,5 +10,5 @@ pub returns : goal.returns
 returns c =
     let ws = c.args.words.now in
     let p = c.args.p in
-    let e : c.saturating-sub.result ≡ position ws (p + 1) - position ws p = omega arith in
+    let e : c.saturating_sub.result ≡ position ws (p + 1) - position ws p = omega arith in
     ap Some e ∙ rows_count c.args.size.fibers (λ p. position ws (p + 1) - position ws p) _ p c.if-p-size.false

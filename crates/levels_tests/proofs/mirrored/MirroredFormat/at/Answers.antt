@@ -14,10 +14,10 @@ pub returns-else-p-size : goal.returns-else-p-size
 returns-else-p-size c =
     ⊎_elim (λ h. rows_at_past _ (λ _. c.args.size.extent) _ _ _ h.0 h.1) (rows_at_none _ _ _ _ _) c.else-p-size.either
 
-pub overflow-sub-result : goal.overflow-sub-result
-overflow-sub-result c =
+pub overflow_sub-result : goal.overflow_sub-result
+overflow_sub-result c =
     omega (arith, mul-add-lt c.args.p c.args.size.extent c.args.n c.args.size.fibers c.if-p-size.true c.if-n-size.true)
 
-pub overflow-sub-result-then-n-size : goal.overflow-sub-result-then-n-size
-overflow-sub-result-then-n-size c =
+pub overflow_sub-result-then-n-size : goal.overflow_sub-result-then-n-size
+overflow_sub-result-then-n-size c =
     omega (arith, mul-add-lt c.args.p c.args.size.extent c.args.n c.args.size.fibers c.if-p-size.true c.if-n-size.true)

@@ -4,23 +4,23 @@ use Rattle.rack_state.proofs.Right.{Right, right}
 use Rattle.rack_state.proofs.state.RackState.new.Goals as goal
 
 -- sizes that pass are in range
-pub returns-in-default : goal.returns-in-default
-returns-in-default g c =
-    let h : Right (sizes_given c.args.sizes) (lengths c.args.areas) = right (sizes_given c.args.sizes) (lengths c.args.areas) (sym c.if-are-wrong.ensures) in
-    absurd (c.in-default.ensures (h.positions.0, h.positions.1, h.level_words.0, h.level_words.1))
+pub returns-in_default : goal.returns-in_default
+returns-in_default g c =
+    let h : Right (sizes_given c.args.sizes) (lengths c.args.areas) = right (sizes_given c.args.sizes) (lengths c.args.areas) (sym c.if-are_wrong.ensures) in
+    absurd (c.in_default.ensures (h.positions.0, h.positions.1, h.level_words.0, h.level_words.1))
 
-pub invariant-of-result : goal.invariant-of-result
-invariant-of-result g c =
-    let h : Right (sizes_given c.args.sizes) (lengths c.args.areas) = right (sizes_given c.args.sizes) (lengths c.args.areas) (sym c.if-are-wrong.ensures) in
+pub invariant_of-result : goal.invariant_of-result
+invariant_of-result g c =
+    let h : Right (sizes_given c.args.sizes) (lengths c.args.areas) = right (sizes_given c.args.sizes) (lengths c.args.areas) (sym c.if-are_wrong.ensures) in
     let e = c.in-Some.ensures in
     (omega (arith, h.level_area, e.2), (omega (arith, h.slot_area, e.1), tt))
 
-pub invariant-of-result-2 : goal.invariant-of-result-2
-invariant-of-result-2 g c =
-    let h : Right (sizes_given c.args.sizes) (lengths c.args.areas) = right (sizes_given c.args.sizes) (lengths c.args.areas) (sym c.if-are-wrong.ensures) in
+pub invariant_of-result-2 : goal.invariant_of-result-2
+invariant_of-result-2 g c =
+    let h : Right (sizes_given c.args.sizes) (lengths c.args.areas) = right (sizes_given c.args.sizes) (lengths c.args.areas) (sym c.if-are_wrong.ensures) in
     (h.stream_words.1, (h.stream_values.1, (h.places.1, tt)))
 
-pub invariant-of-result-3 : goal.invariant-of-result-3
-invariant-of-result-3 g c =
-    let h : Right (sizes_given c.args.sizes) (lengths c.args.areas) = right (sizes_given c.args.sizes) (lengths c.args.areas) (sym c.if-are-wrong.ensures) in
+pub invariant_of-result-3 : goal.invariant_of-result-3
+invariant_of-result-3 g c =
+    let h : Right (sizes_given c.args.sizes) (lengths c.args.areas) = right (sizes_given c.args.sizes) (lengths c.args.areas) (sym c.if-are_wrong.ensures) in
     (h.words_area, (h.values_area, (h.keys_area, (h.sums_area, tt))))

@@ -2,8 +2,8 @@ use Rattle.std.proofs.Common.{refl, arith}
 use Rattle.results.proofs.Adding.{table_ascends, row_ascends}
 use Rattle.results.proofs.table.ResultTable.add_value.Goals as goal
 
-pub invariant-of-self : goal.invariant-of-self
-invariant-of-self g c =
+pub invariant_of-self : goal.invariant_of-self
+invariant_of-self g c =
     let k = g.V.Semiring in
     let t = c.args.self.now in
     let r = c.in-Some.ensures in
