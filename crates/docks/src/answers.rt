@@ -13,7 +13,7 @@ use semiring::{Count, Semiring, Time, dot};
 // The legs on one side of some docks, stored as values of a kind at the front of a row.
 fn fill<V: Semiring + Leg>(docks: &[Dock], side: Side, out: &mut [V::Plain])
     requires { length docks.now ≤ length out.old }
-    ensures { out.new ≡ map stored (row worth side (map entry_of docks.now)) ++ drop (length docks.now) out.old }
+    ensures { out.new ≡ map V.stored (row V.worth side (map entry_of docks.now)) ++ drop (length docks.now) out.old }
 {
     for (i, dock) in docks.iter().enumerate() {
         out[i] = V::leg(dock.leg(side)).plain();
@@ -28,7 +28,7 @@ fn answer<V: Semiring + Leg>(
 ) -> V
     requires room_in { length docks.now ≤ length legs_in.old }
     requires room_out { length docks.now ≤ length legs_out.old }
-    ensures { result ≡ over_docks algebra worth (map entry_of docks.now) }
+    ensures { result ≡ over_docks V.algebra V.worth (map entry_of docks.now) }
 {
     let n = docks.len();
     fill::<V>(docks, Side::In, legs_in);

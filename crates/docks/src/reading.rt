@@ -1,7 +1,7 @@
 // Reads a table from its text.
 ghost use Rattle.std.specs.Prelude.{◌≡◌};
 ghost use Rattle.std.specs.Result.{result_map_both};
-ghost use Rattle.docks.specs.Tables.{lines, fields, of_fields, says, table as «table-from»};
+ghost use Rattle.docks.specs.Tables.{lines, fields, of_fields, says, table as table_from};
 ghost use Rattle.docks.specs.Views.{entry_of, entries};
 
 use crate::bytes::next_line;
@@ -49,7 +49,7 @@ fn read_numbered(number: usize, line: &[u8]) -> Result<Dock, TableError>
 
 // The docks of all lines in order, or the first line at fault.
 pub fn read_table(text: &[u8]) -> Result<Table, TableError>
-    ensures { result_map_both entries (λ e. e) result ≡ «table-from» 1 (lines text.now) }
+    ensures { result_map_both entries (λ e. e) result ≡ table_from 1 (lines text.now) }
 {
     let mut table = Table::new();
     let mut rest = text;

@@ -13,7 +13,7 @@ use slots::{SlotSizes, Slots, TensorRecord};
 // How many words the first `count` levels take of a part that has `limit`.
 fn words_of<S: Formats>(tensor: TensorRecord, count: usize, limit: usize) -> usize
     requires { count ≤ tensor.rank }
-    ensures { result ≡ min (needed (rules_of wants births) (take count (sizes tensor))) limit }
+    ensures { result ≡ min (needed (rules_of S.wants S.births) (take count (sizes tensor))) limit }
 {
     let mut end: usize = 0;
     for i in 0..count {
@@ -33,7 +33,7 @@ fn place_level<S: Formats>(
 ) -> PlacedLevel
     requires in_range { slot ≤ 7 }
     requires there { level < tensor.rank }
-    ensures { LevelLies (rules_of wants births) meaning room.level_words slot tensor level result }
+    ensures { LevelLies (rules_of S.wants S.births) S.meaning room.level_words slot tensor level result }
 {
     let record = tensor.levels[level];
     let part = start_of(slot, room.level_words);
@@ -54,7 +54,7 @@ pub fn level_at<S: Formats>(
     slot: usize,
     level: usize,
 ) -> Option<PlacedLevel>
-    ensures { LevelAnswer (rules_of wants births) meaning room.level_words slot level (slice_index_or (slot_list slots.now) slot None) result }
+    ensures { LevelAnswer (rules_of S.wants S.births) S.meaning room.level_words slot level (slice_index_or (slot_list slots.now) slot None) result }
 {
     let Some(tensor) = slots.get(slot) else {
         return None;

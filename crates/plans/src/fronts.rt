@@ -1,6 +1,6 @@
 // The fronts of ascending rows: the first coordinates that they begin with, each counted once.
 ghost use Rattle.std.specs.Prelude.{◌≡◌, ◌+◌, ◌*◌, ◌<◌, ◌≤◌, not, length, drop};
-ghost use Rattle.model.specs.Stores.{fronts as «fronts-of»};
+ghost use Rattle.model.specs.Stores.{fronts as fronts_of};
 ghost use Rattle.plans.specs.Rows.{rows_of, nth_row, next_same, Rising};
 
 use crate::rows::{is_same, row};
@@ -24,7 +24,7 @@ pub fn count_fronts(coordinates: &[u32], rank: usize, count: usize, depth: usize
     requires whole { length coordinates.now ≡ rank * count }
     requires within { depth ≤ rank }
     requires rising { Rising (rows_of rank count coordinates.now) }
-    ensures { result ≡ length («fronts-of» depth (rows_of rank count coordinates.now)) }
+    ensures { result ≡ length (fronts_of depth (rows_of rank count coordinates.now)) }
 {
     let mut fronts = 0;
     for k in 0..count {

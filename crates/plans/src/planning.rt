@@ -24,7 +24,7 @@ pub fn plan<V: Semiring, S: Formats>(
     values: &[V::Plain],
 ) -> Result<TensorRecord, StoreFault>
     ensures few { OnOk result (length values.now ≤ 4096) }
-    ensures planned { Planned (slot_sizes room.level_words room.positions) (rules_of wants births) (request slot rank extents.now formats.now coordinates.now (map reads values.now)) result }
+    ensures planned { Planned (slot_sizes room.level_words room.positions) (rules_of S.wants S.births) (request slot rank extents.now formats.now coordinates.now (map V.reads values.now)) result }
 {
     if slot > LAST_SLOT {
         return Err(StoreFault::Slot(slot));

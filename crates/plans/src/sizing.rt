@@ -20,7 +20,7 @@ fn level_record<S: Formats>(
     requires narrow { extent ≤ 4096 }
     requires few { fibers ≤ 65536 }
     requires apart { entries ≤ fibers * extent }
-    ensures { MatchOption result (65536 < births format (level_size extent fibers entries)) (λ l. (level_of l ≡ (format, level_size extent fibers entries)) × (births format (level_size extent fibers entries) ≤ 65536)) }
+    ensures { MatchOption result (65536 < S.births format (level_size extent fibers entries)) (λ l. (level_of l ≡ (format, level_size extent fibers entries)) × (S.births format (level_size extent fibers entries) ≤ 65536)) }
 {
     if entries > LevelSize::MAX_ENTRIES as usize {
         return None;
@@ -50,7 +50,7 @@ pub fn measure<S: Formats>(
     requires whole { length coordinates.now ≡ length extents.now * count }
     requires ordered { Ordered extents.now (rows_of (length extents.now) count coordinates.now) }
     ensures few { OnSome result (count ≤ 4096) }
-    ensures sized { Measured room.level_words room.positions (rules_of wants births) (level_sizes (rules_of wants births) (rows_of (length extents.now) count coordinates.now) 0 1 extents.now formats.now) result }
+    ensures sized { Measured room.level_words room.positions (rules_of S.wants S.births) (level_sizes (rules_of S.wants S.births) (rows_of (length extents.now) count coordinates.now) 0 1 extents.now formats.now) result }
 {
     let rank = extents.len();
     let unused = LevelRecord {

@@ -20,7 +20,7 @@ pub fn run<V: Semiring, S: Formats>(
     calls: &[Call<'_, V::Plain>],
     answers: &mut [Answer<V>],
 ) -> Result<Rack<V, S>, Areas<V::Plain>>
-    ensures { Ran algebra reads (rules_of wants births) meaning sizes areas calls.now answers.old result answers.new }
+    ensures { Ran V.algebra V.reads (rules_of S.wants S.births) S.meaning sizes areas calls.now answers.old result answers.new }
 {
     match Rack::new(sizes, areas) {
         Ok(rack) => {
@@ -46,9 +46,9 @@ pub fn compare<V: Semiring, S: Formats, T: Formats>(
     Result<Rack<V, S>, Areas<V::Plain>>,
     Result<Rack<V, T>, Areas<V::Plain>>,
 )
-    ensures first { Ran algebra reads (rules_of S.Formats.wants S.Formats.births) S.Formats.meaning sizes areas calls.now answers.old result.0 answers.new }
-    ensures second { Ran algebra reads (rules_of T.Formats.wants T.Formats.births) T.Formats.meaning other_sizes other_areas other_calls.now other_answers.old result.1 other_answers.new }
-    ensures agreement { (s t : Snapshot V.Plain) → Agreement algebra reads (rules_of S.Formats.wants S.Formats.births) (rules_of T.Formats.wants T.Formats.births) S.Formats.meaning T.Formats.meaning s (events reads calls.now answers.new) t (events reads other_calls.now other_answers.new) }
+    ensures first { Ran V.algebra V.reads (rules_of S.Formats.wants S.Formats.births) S.Formats.meaning sizes areas calls.now answers.old result.0 answers.new }
+    ensures second { Ran V.algebra V.reads (rules_of T.Formats.wants T.Formats.births) T.Formats.meaning other_sizes other_areas other_calls.now other_answers.old result.1 other_answers.new }
+    ensures agreement { (s t : Snapshot V.Plain) → Agreement V.algebra V.reads (rules_of S.Formats.wants S.Formats.births) (rules_of T.Formats.wants T.Formats.births) S.Formats.meaning T.Formats.meaning s (events V.reads calls.now answers.new) t (events V.reads other_calls.now other_answers.new) }
 {
     let first = run(sizes, areas, calls, answers);
     let second = run(other_sizes, other_areas, other_calls, other_answers);

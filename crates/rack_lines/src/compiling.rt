@@ -33,7 +33,7 @@ pub fn compile<V: Semiring, S: Formats>(
     rack: &mut RackState<V, S>,
     text: &[u8],
 ) -> Result<usize, Fault>
-    ensures { Does algebra reads (rules_of wants births) meaning (COMPILE text.now) (view rack.old) (answered compiled result) (view rack.new) }
+    ensures { Does V.algebra V.reads (rules_of S.wants S.births) S.meaning (COMPILE text.now) (view rack.old) (answered compiled result) (view rack.new) }
 {
     if is_busy(rack.loaded, rack.graph.commands) {
         return Err(Fault::Busy);

@@ -13,7 +13,7 @@ use semiring::Semiring;
 
 // Removes the graph and its result, and answers how many of its commands were carried out. All stream words and values are free again.
 pub fn drop_graph<V: Semiring, S: Formats>(rack: &mut RackState<V, S>) -> Result<usize, Fault>
-    ensures does { Does algebra reads (rules_of wants births) meaning DROP (view rack.old) (answered dropped result) (view rack.new) }
+    ensures does { Does V.algebra V.reads (rules_of S.wants S.births) S.meaning DROP (view rack.old) (answered dropped result) (view rack.new) }
     ensures freed { OnOk result (Empty rack.new.tapes × (rack.new.count ≡ 0)) }
 {
     let Some(loaded) = rack.loaded else {

@@ -15,7 +15,7 @@ pub fn read<V: Semiring, S: Formats>(
     rack: &RackState<V, S>,
     n: usize,
 ) -> Result<Option<Entry<V>>, Fault>
-    ensures { Does algebra reads (rules_of wants births) meaning (READ n) (view rack.now) (answered entry_listed result) (view rack.now) }
+    ensures { Does V.algebra V.reads (rules_of S.wants S.births) S.meaning (READ n) (view rack.now) (answered entry_listed result) (view rack.now) }
 {
     let Some(loaded) = rack.loaded else {
         return Err(Fault::NoGraph);

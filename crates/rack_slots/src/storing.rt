@@ -21,7 +21,7 @@ pub fn store<V: Semiring, S: Formats>(
     coordinates: &[u32],
     entries: &[V::Plain],
 ) -> Result<usize, Fault>
-    ensures { Does algebra reads (rules_of wants births) meaning (STORE (request slot rank extents.now formats.now coordinates.now (map reads entries.now))) (view rack.old) (answered stored result) (view rack.new) }
+    ensures { Does V.algebra V.reads (rules_of S.wants S.births) S.meaning (STORE (request slot rank extents.now formats.now coordinates.now (map V.reads entries.now))) (view rack.old) (answered stored result) (view rack.new) }
 {
     if is_busy(rack.loaded, rack.graph.commands) {
         return Err(Fault::Busy);

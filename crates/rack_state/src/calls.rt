@@ -1,6 +1,6 @@
 // What the calls of a rack answer.
 ghost use Rattle.std.specs.Prelude.{◌≡◌};
-ghost use Rattle.model.specs.Calls.{returned as «number-and-place»};
+ghost use Rattle.model.specs.Calls.{returned as number_and_place};
 ghost use Rattle.rack_state.specs.Faults.{fault_of};
 
 use lines::LineFault;
@@ -37,7 +37,7 @@ pub struct Entry<V> {
 impl Fault {
     // The number and the place that a refusal returns.
     pub fn returned(self) -> (u8, usize)
-        ensures { result ≡ «number-and-place» (fault_of self) }
+        ensures { result ≡ number_and_place (fault_of self) }
     {
         match self {
             Fault::Busy => (1, 0),

@@ -43,7 +43,7 @@ impl<V: Semiring, S: Formats> RackState<V, S> {
     // An empty rack over the areas, as they are. Wrong sizes are refused, and the areas handed back.
     pub fn new(sizes: RackSizes, areas: Areas<V::Plain>) -> Result<RackState<V, S>, Areas<V::Plain>>
         ensures sizes { Made sizes areas result }
-        ensures empty { IfOk result (λ s. Mirrors algebra reads (rules_of wants births) meaning new_book (view s)) }
+        ensures empty { IfOk result (λ s. Mirrors V.algebra V.reads (rules_of S.wants S.births) S.meaning new_book (view s)) }
     {
         if are_wrong(&sizes, &areas) {
             return Err(areas);

@@ -13,7 +13,7 @@ use semiring::Semiring;
 
 // STEP: carries out the next command, and answers how many remain.
 pub fn step<V: Semiring, S: Formats>(rack: &mut RackState<V, S>) -> Result<usize, Fault>
-    ensures { Does algebra reads (rules_of wants births) meaning STEP (view rack.old) (answered stepped result) (view rack.new) }
+    ensures { Does V.algebra V.reads (rules_of S.wants S.births) S.meaning STEP (view rack.old) (answered stepped result) (view rack.new) }
 {
     let Some(loaded) = rack.loaded else {
         return Err(Fault::NoGraph);

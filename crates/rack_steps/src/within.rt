@@ -30,7 +30,7 @@ pub fn carry_within<V: Semiring, S: Formats>(
     requires values_fit { rooms.stream_values ≤ length values.old }
     requires keys_fit { rooms.places ≤ length keys.old }
     requires sums_fit { rooms.places ≤ length sums.old }
-    ensures { CarriedWithin algebra reads (rules_of wants births) meaning rooms.stream_words rooms.stream_values rooms.places tensors.now.room.level_words tensors.now.room.positions (state_of tensors.now) (meant command) (working tapes.old words.old values.old keys.old sums.old count.old) result (working tapes.new words.new values.new keys.new sums.new count.new) }
+    ensures { CarriedWithin V.algebra V.reads (rules_of S.wants S.births) S.meaning rooms.stream_words rooms.stream_values rooms.places tensors.now.room.level_words tensors.now.room.positions (state_of tensors.now) (meant command) (working tapes.old words.old values.old keys.old sums.old count.old) result (working tapes.new words.new values.new keys.new sums.new count.new) }
 {
     let Rooms {
         stream_words,

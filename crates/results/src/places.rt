@@ -12,8 +12,8 @@ const PLACES: usize = 3;
 // How many places a key has. A table of keys filled up to that many is the table of the keys.
 pub fn key_places<V: Semiring>() -> usize
     ensures places { result ≡ 3 }
-    ensures padding { Padding algebra result }
-    ensures alone { KeysAlone algebra }
+    ensures padding { Padding V.algebra result }
+    ensures alone { KeysAlone V.algebra }
 {
     PLACES
 }

@@ -1,7 +1,7 @@
 // Code over lent rows of stored values, written once for every kind.
 ghost use Rattle.std.specs.Prelude.{◌≡◌, map, length};
 ghost use Rattle.std.specs.Option.{SomeIff};
-ghost use Rattle.model.specs.Semirings.{total, dot as «dot-product»};
+ghost use Rattle.model.specs.Semirings.{total, dot as dot_product};
 ghost use Rattle.semiring.specs.Rows.{Multiplied};
 
 use crate::Semiring;
@@ -9,7 +9,7 @@ use crate::fault::RowFault;
 
 // The sum of a row; of an empty one, zero.
 pub fn sum_row<V: Semiring>(row: &[V::Plain]) -> V
-    ensures { result ≡ total algebra (map reads row.now) }
+    ensures { result ≡ total V.algebra (map V.reads row.now) }
 {
     let mut sum = V::zero();
     for x in row {
@@ -25,7 +25,7 @@ pub fn multiply_rows<V: Semiring>(
     b: &[V::Plain],
     out: &mut [V::Plain],
 ) -> Result<usize, RowFault>
-    ensures { Multiplied algebra reads stored a.now b.now out.old out.new result }
+    ensures { Multiplied V.algebra V.reads V.stored a.now b.now out.old out.new result }
 {
     if a.len() != b.len() {
         return Err(RowFault::Lengths);
@@ -41,7 +41,7 @@ pub fn multiply_rows<V: Semiring>(
 
 // The sum of the products of two rows; none exactly if they are not of one length.
 pub fn dot<V: Semiring>(a: &[V::Plain], b: &[V::Plain]) -> Option<V>
-    ensures { SomeIff result (length a.now ≡ length b.now) («dot-product» algebra (map reads a.now) (map reads b.now)) }
+    ensures { SomeIff result (length a.now ≡ length b.now) (dot_product V.algebra (map V.reads a.now) (map V.reads b.now)) }
 {
     if a.len() != b.len() {
         return None;

@@ -22,8 +22,8 @@ pub const MAX_ENTRIES: usize = 4096;
 // BUILD where there is room for it.
 fn build<S: Formats>(level: LevelRecord, owners: &[u32], coordinates: &[u32], words: &mut [u32])
     requires lists { Listed (size_of level.size) owners.now coordinates.now }
-    requires room { wants level.format (size_of level.size) ≤ length words.old }
-    ensures { Built (wants level.format (size_of level.size)) (kept level.format (size_of level.size)) (meaning level.format (size_of level.size)) owners.now coordinates.now words.old words.new }
+    requires room { S.wants level.format (size_of level.size) ≤ length words.old }
+    ensures { Built (S.wants level.format (size_of level.size)) (S.kept level.format (size_of level.size)) (S.meaning level.format (size_of level.size)) owners.now coordinates.now words.old words.new }
 {
     match S::build(level.format, level.size, owners, coordinates, words) {
         Ok(()) => {}
@@ -42,9 +42,9 @@ fn descend<S: Formats>(
 )
     requires whole { length coordinates.now ≡ rank * length owners.old }
     requires deep { depth < rank }
-    requires ascends { (p : ℕ) → Ascends (coords (fiber (meaning level.format (size_of level.size) words.now) p)) }
-    requires held { (k : ℕ) → k < length owners.old → (j : ℕ) × (child (fiber (meaning level.format (size_of level.size) words.now) (slice_index owners.old k)) (slice_index (nth_row rank coordinates.now k) depth) ≡ Some j) }
-    ensures { (k : ℕ) → k < length owners.old → child (fiber (meaning level.format (size_of level.size) words.now) (slice_index owners.old k)) (slice_index (nth_row rank coordinates.now k) depth) ≡ Some (slice_index owners.new k) }
+    requires ascends { (p : ℕ) → Ascends (coords (fiber (S.meaning level.format (size_of level.size) words.now) p)) }
+    requires held { (k : ℕ) → k < length owners.old → (j : ℕ) × (child (fiber (S.meaning level.format (size_of level.size) words.now) (slice_index owners.old k)) (slice_index (nth_row rank coordinates.now k) depth) ≡ Some j) }
+    ensures { (k : ℕ) → k < length owners.old → child (fiber (S.meaning level.format (size_of level.size) words.now) (slice_index owners.old k)) (slice_index (nth_row rank coordinates.now k) depth) ≡ Some (slice_index owners.new k) }
 {
     for k in 0..owners.len() {
         let c = coordinate(coordinates, rank, k, depth);
@@ -69,8 +69,8 @@ fn add_level<S: Formats>(
     requires extent { level.size.extent ≡ slice_index extents.now depth }
     requires entries { level.size.entries ≡ length (fronts (suc depth) (rows_of (length extents.now) (length owners.old) coordinates.now)) }
     requires owned { Owners depth level.size.fibers owners.old (rows_of (length extents.now) (length owners.old) coordinates.now) }
-    requires room { start + wants level.format (size_of level.size) ≤ length words.old }
-    ensures { Added (wants level.format (size_of level.size)) (kept level.format (size_of level.size)) (meaning level.format (size_of level.size)) depth start (rows_of (length extents.now) (length owners.old) coordinates.now) owners.old words.old owners.new words.new }
+    requires room { start + S.wants level.format (size_of level.size) ≤ length words.old }
+    ensures { Added (S.wants level.format (size_of level.size)) (S.kept level.format (size_of level.size)) (S.meaning level.format (size_of level.size)) depth start (rows_of (length extents.now) (length owners.old) coordinates.now) owners.old words.old owners.new words.new }
 {
     let rank = extents.len();
     let mut firsts = [0; MAX_ENTRIES];
@@ -100,10 +100,10 @@ pub fn build_levels<S: Formats>(
     requires whole { length coordinates.now ≡ length extents.now * length owners.old }
     requires few { length owners.old ≤ 4096 }
     requires ordered { Ordered extents.now (rows_of (length extents.now) (length owners.old) coordinates.now) }
-    requires sized { (fs : List ℕ) × (length fs ≡ length extents.now) × (sizes tensor ≡ level_sizes (rules_of wants births) (rows_of (length extents.now) (length owners.old) coordinates.now) 0 1 extents.now fs) }
+    requires sized { (fs : List ℕ) × (length fs ≡ length extents.now) × (sizes tensor ≡ level_sizes (rules_of S.wants S.births) (rows_of (length extents.now) (length owners.old) coordinates.now) 0 1 extents.now fs) }
     requires roots { (k : ℕ) → k < length owners.old → slice_index owners.old k ≡ 0 }
-    requires room { needed (rules_of wants births) (sizes tensor) ≤ length words.old }
-    ensures { Raised (rules_of wants births) meaning kept (sizes tensor) extents.now (rows_of (length extents.now) (length owners.old) coordinates.now) words.old owners.new words.new }
+    requires room { needed (rules_of S.wants S.births) (sizes tensor) ≤ length words.old }
+    ensures { Raised (rules_of S.wants S.births) S.meaning S.kept (sizes tensor) extents.now (rows_of (length extents.now) (length owners.old) coordinates.now) words.old owners.new words.new }
 {
     let mut start = 0;
     for i in 0..tensor.rank {

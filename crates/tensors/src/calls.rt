@@ -25,7 +25,7 @@ pub fn store<V: Semiring, S: Formats>(
     entries: &[V::Plain],
 ) -> Result<usize, StoreFault>
     ensures room { areas.new.room ≡ areas.old.room }
-    ensures stored { Stored (rules_of wants births) meaning kept algebra.zero reads (slot_sizes areas.old.room.level_words areas.old.room.positions) (request slot rank extents.now formats.now coordinates.now (map reads entries.now)) (state_of areas.old) result (state_of areas.new) }
+    ensures stored { Stored (rules_of S.wants S.births) S.meaning S.kept V.algebra.zero V.reads (slot_sizes areas.old.room.level_words areas.old.room.positions) (request slot rank extents.now formats.now coordinates.now (map V.reads entries.now)) (state_of areas.old) result (state_of areas.new) }
 {
     let room = areas.room;
     store_in::<V, S>(
@@ -49,7 +49,7 @@ pub fn lookup<V: Semiring, S: Formats>(
     slot: usize,
     coordinates: &[u32],
 ) -> Option<V>
-    ensures { Looked (rules_of wants births) meaning kept algebra.zero reads (slot_sizes areas.now.room.level_words areas.now.room.positions) (state_of areas.now) slot coordinates.now result }
+    ensures { Looked (rules_of S.wants S.births) S.meaning S.kept V.algebra.zero V.reads (slot_sizes areas.now.room.level_words areas.now.room.positions) (state_of areas.now) slot coordinates.now result }
 {
     let Some(tensor) = areas.slots.get(slot) else {
         return None;

@@ -1,7 +1,7 @@
 // Values read back through the levels.
 ghost use Rattle.std.specs.Prelude.{◌≡◌, ℕ, ◌+◌, ◌*◌, ◌≤◌, min, map, length, take, Some};
 ghost use Rattle.model.specs.Fibers.{Ascends, coords, fiber, fiber_at, child};
-ghost use Rattle.model.specs.Tensors.{reached, value_at as «held_at», held_value as «value-held»};
+ghost use Rattle.model.specs.Tensors.{reached, value_at as held_at, held_value as value_held};
 ghost use Rattle.formats.specs.Sizes.{size_of};
 ghost use Rattle.slots.specs.Layouts.{part, levels_on, Kept, storage};
 ghost use Rattle.slots.specs.Records.{sizes};
@@ -19,7 +19,7 @@ fn step<S: Formats>(
     reference: Option<u32>,
     c: u32,
 ) -> Option<u32>
-    ensures { ((p : ℕ) → Ascends (coords (fiber (meaning level.format (size_of level.size) words.now) p))) → result ≡ child (fiber_at (meaning level.format (size_of level.size) words.now) reference) c }
+    ensures { ((p : ℕ) → Ascends (coords (fiber (S.meaning level.format (size_of level.size) words.now) p))) → result ≡ child (fiber_at (S.meaning level.format (size_of level.size) words.now) reference) c }
 {
     match reference {
         Some(p) => find::<S>(level.format, level.size, words, p, c),
@@ -42,7 +42,7 @@ fn end_of(start: usize, need: usize, len: usize) -> usize
 // The reference that the coordinates lead to, a level for each.
 fn reach<S: Formats>(tensor: TensorRecord, words: &[u32], coordinates: &[u32]) -> Option<u32>
     requires { length coordinates.now ≡ tensor.rank }
-    ensures { Kept (rules_of wants births) kept (sizes tensor) words.now → result ≡ reached (levels_on (rules_of wants births) meaning (sizes tensor) words.now) (Some 0) coordinates.now }
+    ensures { Kept (rules_of S.wants S.births) S.kept (sizes tensor) words.now → result ≡ reached (levels_on (rules_of S.wants S.births) S.meaning (sizes tensor) words.now) (Some 0) coordinates.now }
 {
     let mut reference = Some(0);
     let mut start: usize = 0;
@@ -58,7 +58,7 @@ fn reach<S: Formats>(tensor: TensorRecord, words: &[u32], coordinates: &[u32]) -
 
 // The value at a reference among the positions in use; zero at none.
 fn value_at<V: Semiring>(reference: Option<u32>, used: usize, values: &[V::Plain]) -> V
-    ensures { result ≡ «held_at» algebra.zero (map reads (take used values.now)) reference }
+    ensures { result ≡ held_at V.algebra.zero (map V.reads (take used values.now)) reference }
 {
     let Some(p) = reference else {
         return V::zero();
@@ -83,7 +83,7 @@ pub fn held_value<V: Semiring, S: Formats>(
     requires words_area { 8 * room.level_words ≤ length words.now }
     requires values_area { 8 * room.positions ≤ length values.now }
     requires rank { length coordinates.now ≡ tensor.rank }
-    ensures { Kept (rules_of wants births) kept (sizes tensor) (part slot room.level_words words.now) → result ≡ «value-held» algebra.zero (storage (rules_of wants births) meaning reads (sizes tensor) tensor.positions (part slot room.level_words words.now) (part slot room.positions values.now)) coordinates.now }
+    ensures { Kept (rules_of S.wants S.births) S.kept (sizes tensor) (part slot room.level_words words.now) → result ≡ value_held V.algebra.zero (storage (rules_of S.wants S.births) S.meaning V.reads (sizes tensor) tensor.positions (part slot room.level_words words.now) (part slot room.positions values.now)) coordinates.now }
 {
     let from = start_of(slot, room.level_words);
     let reference = reach::<S>(tensor, &words[from..from + room.level_words], coordinates);

@@ -27,7 +27,7 @@ pub fn store_in<V: Semiring, S: Formats>(
 ) -> Result<usize, StoreFault>
     requires words_area { 8 * room.level_words ≤ length words.old }
     requires values_area { 8 * room.positions ≤ length values.old }
-    ensures { Stored (rules_of wants births) meaning kept algebra.zero reads (slot_sizes room.level_words room.positions) (request slot rank extents.now formats.now coordinates.now (map reads entries.now)) (slot_state (slot_list slots.old) words.old values.old) result (slot_state (slot_list slots.new) words.new values.new) }
+    ensures { Stored (rules_of S.wants S.births) S.meaning S.kept V.algebra.zero V.reads (slot_sizes room.level_words room.positions) (request slot rank extents.now formats.now coordinates.now (map V.reads entries.now)) (slot_state (slot_list slots.old) words.old values.old) result (slot_state (slot_list slots.new) words.new values.new) }
 {
     match plan::<V, S>(room, slot, rank, extents, formats, coordinates, entries) {
         Ok(tensor) => {

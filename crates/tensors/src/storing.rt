@@ -42,11 +42,11 @@ fn write_levels<S: Formats>(
     requires whole { length coordinates.now ≡ length extents.now * length positions.old }
     requires few { length positions.old ≤ 4096 }
     requires ordered { Ordered extents.now (rows_of (length extents.now) (length positions.old) coordinates.now) }
-    requires sized { (fs : List ℕ) × (length fs ≡ length extents.now) × (sizes tensor ≡ level_sizes (rules_of wants births) (rows_of (length extents.now) (length positions.old) coordinates.now) 0 1 extents.now fs) }
-    requires room { needed (rules_of wants births) (sizes tensor) ≤ size }
+    requires sized { (fs : List ℕ) × (length fs ≡ length extents.now) × (sizes tensor ≡ level_sizes (rules_of S.wants S.births) (rows_of (length extents.now) (length positions.old) coordinates.now) 0 1 extents.now fs) }
+    requires room { needed (rules_of S.wants S.births) (sizes tensor) ≤ size }
     ensures before { take (slot * size) words.new ≡ take (slot * size) words.old }
-    ensures behind { drop (slot * size + needed (rules_of wants births) (sizes tensor)) words.new ≡ drop (slot * size + needed (rules_of wants births) (sizes tensor)) words.old }
-    ensures raised { Raised (rules_of wants births) meaning kept (sizes tensor) extents.now (rows_of (length extents.now) (length positions.old) coordinates.now) (part slot size words.old) positions.new (part slot size words.new) }
+    ensures behind { drop (slot * size + needed (rules_of S.wants S.births) (sizes tensor)) words.new ≡ drop (slot * size + needed (rules_of S.wants S.births) (sizes tensor)) words.old }
+    ensures raised { Raised (rules_of S.wants S.births) S.meaning S.kept (sizes tensor) extents.now (rows_of (length extents.now) (length positions.old) coordinates.now) (part slot size words.old) positions.new (part slot size words.new) }
 {
     fill(positions, 0);
     let from = start_of(slot, size);
@@ -77,7 +77,7 @@ fn write_values<V: Semiring>(
     requires within { (k : ℕ) → k < length positions.now → slice_index positions.now k < used }
     ensures before { take (slot * size) values.new ≡ take (slot * size) values.old }
     ensures behind { drop (slot * size + used) values.new ≡ drop (slot * size + used) values.old }
-    ensures filled { map reads (take used (part slot size values.new)) ≡ scattered positions.now (map reads entries.now) (replicate used algebra.zero) }
+    ensures filled { map V.reads (take used (part slot size values.new)) ≡ scattered positions.now (map V.reads entries.now) (replicate used V.algebra.zero) }
 {
     let from = start_of(slot, size);
     fill_values::<V>(positions, entries, &mut values[from..from + used]);
@@ -104,11 +104,11 @@ pub fn write_tensor<V: Semiring, S: Formats>(
     requires whole { length coordinates.now ≡ length extents.now * length entries.now }
     requires few { length entries.now ≤ 4096 }
     requires ordered { Ordered extents.now (rows_of (length extents.now) (length entries.now) coordinates.now) }
-    requires sized { (fs : List ℕ) × (length fs ≡ length extents.now) × (sizes tensor ≡ level_sizes (rules_of wants births) (rows_of (length extents.now) (length entries.now) coordinates.now) 0 1 extents.now fs) }
-    requires words_fit { needed (rules_of wants births) (sizes tensor) ≤ room.level_words }
-    requires used { tensor.positions ≡ positions_from 1 (rules_of wants births) (sizes tensor) }
+    requires sized { (fs : List ℕ) × (length fs ≡ length extents.now) × (sizes tensor ≡ level_sizes (rules_of S.wants S.births) (rows_of (length extents.now) (length entries.now) coordinates.now) 0 1 extents.now fs) }
+    requires words_fit { needed (rules_of S.wants S.births) (sizes tensor) ≤ room.level_words }
+    requires used { tensor.positions ≡ positions_from 1 (rules_of S.wants S.births) (sizes tensor) }
     requires values_fit { tensor.positions ≤ room.positions }
-    ensures { Written (rules_of wants births) meaning kept algebra.zero reads (slot_sizes room.level_words room.positions) slot (sizes tensor) tensor.positions (tensor_at extents.now coordinates.now (map reads entries.now)) words.old values.old words.new values.new }
+    ensures { Written (rules_of S.wants S.births) S.meaning S.kept V.algebra.zero V.reads (slot_sizes room.level_words room.positions) slot (sizes tensor) tensor.positions (tensor_at extents.now coordinates.now (map V.reads entries.now)) words.old values.old words.new values.new }
 {
     let positions = &mut scratch[0..entries.len()];
     write_levels::<S>(

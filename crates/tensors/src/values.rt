@@ -8,7 +8,7 @@ use semiring::Semiring;
 pub fn fill_values<V: Semiring>(positions: &[u32], entries: &[V::Plain], values: &mut [V::Plain])
     requires paired { length positions.now ≡ length entries.now }
     requires within { (k : ℕ) → k < length positions.now → slice_index positions.now k < length values.old }
-    ensures { map reads values.new ≡ scattered positions.now (map reads entries.now) (replicate (length values.old) algebra.zero) }
+    ensures { map V.reads values.new ≡ scattered positions.now (map V.reads entries.now) (replicate (length values.old) V.algebra.zero) }
 {
     fill(values, V::zero().plain());
     for k in 0..positions.len() {

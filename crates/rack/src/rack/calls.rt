@@ -20,7 +20,7 @@ use semiring::Semiring;
 impl<V: Semiring, S: Formats> Rack<V, S> {
     // An empty rack over the areas, as they are. A size out of range or an area too short is refused, and the areas are handed back.
     pub fn new(sizes: RackSizes, areas: Areas<V::Plain>) -> Result<Rack<V, S>, Areas<V::Plain>>
-        ensures { MadeRack algebra reads (rules_of wants births) meaning sizes areas result }
+        ensures { MadeRack V.algebra V.reads (rules_of S.wants S.births) S.meaning sizes areas result }
     {
         match RackState::new(sizes, areas) {
             Ok(state) => Ok(Rack { state }),
@@ -56,7 +56,7 @@ impl<V: Semiring, S: Formats> Rack<V, S> {
         coordinates: &[u32],
         values: &[V::Plain],
     ) -> Result<usize, Fault>
-        ensures { Does algebra reads (rules_of wants births) meaning (STORE (request slot rank extents.now formats.now coordinates.now (map reads values.now))) (seen self.old) (answered stored result) (seen self.new) }
+        ensures { Does V.algebra V.reads (rules_of S.wants S.births) S.meaning (STORE (request slot rank extents.now formats.now coordinates.now (map V.reads values.now))) (seen self.old) (answered stored result) (seen self.new) }
     {
         store(
             &mut self.state,
@@ -71,21 +71,21 @@ impl<V: Semiring, S: Formats> Rack<V, S> {
 
     // COMPILE: reads a line, keeps its graph, and answers its number of commands.
     pub fn compile(&mut self, line: &[u8]) -> Result<usize, Fault>
-        ensures { Does algebra reads (rules_of wants births) meaning (COMPILE line.now) (seen self.old) (answered compiled result) (seen self.new) }
+        ensures { Does V.algebra V.reads (rules_of S.wants S.births) S.meaning (COMPILE line.now) (seen self.old) (answered compiled result) (seen self.new) }
     {
         compile(&mut self.state, line)
     }
 
     // STEP: carries out the next command, and answers how many remain.
     pub fn step(&mut self) -> Result<usize, Fault>
-        ensures { Does algebra reads (rules_of wants births) meaning STEP (seen self.old) (answered stepped result) (seen self.new) }
+        ensures { Does V.algebra V.reads (rules_of S.wants S.births) S.meaning STEP (seen self.old) (answered stepped result) (seen self.new) }
     {
         step(&mut self.state)
     }
 
     // READ: the nth result that is not zero, from 0, or none past the last.
     pub fn read(&self, n: usize) -> Result<Option<Entry<V>>, Fault>
-        ensures { Does algebra reads (rules_of wants births) meaning (READ n) (seen self.now) (answered entry_listed result) (seen self.now) }
+        ensures { Does V.algebra V.reads (rules_of S.wants S.births) S.meaning (READ n) (seen self.now) (answered entry_listed result) (seen self.now) }
     {
         read(&self.state, n)
     }
@@ -93,7 +93,7 @@ impl<V: Semiring, S: Formats> Rack<V, S> {
     // DROP: removes graph and result, and answers the commands carried out. All stream words and values are free again.
     pub fn drop_graph(&mut self) -> Result<usize, Fault>
         ensures freed { OnOk result (taking (seen self.new) ≡ record { words = 0; values = 0; results = 0 }) }
-        ensures does { Does algebra reads (rules_of wants births) meaning DROP (seen self.old) (answered dropped result) (seen self.new) }
+        ensures does { Does V.algebra V.reads (rules_of S.wants S.births) S.meaning DROP (seen self.old) (answered dropped result) (seen self.new) }
     {
         drop_graph(&mut self.state)
     }

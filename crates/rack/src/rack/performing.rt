@@ -13,7 +13,7 @@ use semiring::Semiring;
 impl<V: Semiring, S: Formats> Rack<V, S> {
     // Makes one call.
     pub fn call(&mut self, call: Call<'_, V::Plain>) -> Answer<V>
-        ensures { Does algebra reads (rules_of wants births) meaning (call_of reads call.entry) (seen self.old) (answer_of result) (seen self.new) }
+        ensures { Does V.algebra V.reads (rules_of S.wants S.births) S.meaning (call_of V.reads call.entry) (seen self.old) (answer_of result) (seen self.new) }
     {
         match call {
             Call::Store {
@@ -48,7 +48,7 @@ impl<V: Semiring, S: Formats> Rack<V, S> {
 
     // Makes the calls in their order and writes their answers, as far as there are places for them.
     pub fn perform(&mut self, calls: &[Call<'_, V::Plain>], answers: &mut [Answer<V>])
-        ensures { Performed algebra reads (rules_of wants births) meaning calls.now (seen self.old) answers.old (seen self.new) answers.new }
+        ensures { Performed V.algebra V.reads (rules_of S.wants S.births) S.meaning calls.now (seen self.old) answers.old (seen self.new) answers.new }
     {
         let n = calls.len().min(answers.len());
         for i in 0..n {

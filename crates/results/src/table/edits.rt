@@ -15,7 +15,7 @@ use semiring::Semiring;
 impl<P: Copy> ResultTable<'_, '_, P> {
     // Adds a value at a key; refused, with nothing stored, where the key is new and a row is full.
     pub fn add_value<V: Semiring<Plain = P>>(&mut self, key: ResultKey, value: V) -> bool
-        ensures held { Grown algebra reads (coordinates key) value self.old result self.new }
+        ensures held { Grown V.algebra V.reads (coordinates key) value self.old result self.new }
         ensures keys { self.new.keys.ghost_name ≡ self.old.keys.ghost_name }
         ensures values { self.new.values.ghost_name ≡ self.old.values.ghost_name }
     {
@@ -31,7 +31,7 @@ impl<P: Copy> ResultTable<'_, '_, P> {
 
     // The nth entry that is not zero, from 0.
     pub fn entry<V: Semiring<Plain = P>>(&self, n: usize) -> Option<(ResultKey, V)>
-        ensures { option_map (λ e. (coordinates e.0, e.1)) result ≡ slice_get (results algebra (held reads self.now)) n }
+        ensures { option_map (λ e. (coordinates e.0, e.1)) result ≡ slice_get (results V.algebra (held V.reads self.now)) n }
     {
         nth_nonzero(self.keys, self.values, self.len, n)
     }
