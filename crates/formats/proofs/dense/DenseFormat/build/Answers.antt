@@ -4,5 +4,5 @@ use Rattle.formats.proofs.dense.DenseFormat.build.Goals as goal
 
 pub returns : goal.returns
 returns c = record {
-  outcome = dense_built (size_of c.args.-size) c.args.-owners.now c.args.-coordinates.now c.args.-words.now c.requires;
+  outcome = dense_built (size_of c.args._size) c.args._owners.now c.args._coordinates.now c.args._words.now c.requires;
 }

@@ -9,7 +9,7 @@ returns c =
       outcome = record {
         room = omega arith;
         sound = refl;
-        held = rows_includes _ (λ _. c.args.-size.extent) _ _ _ (λ k i. (_, h.owned k (omega (arith, h.owners_long)), h.within k (omega (arith, h.owners_long)), refl));
+        held = rows_includes _ (λ _. c.args._size.extent) _ _ _ (λ k i. (_, h.owned k (omega (arith, h.owners_long)), h.within k (omega (arith, h.owners_long)), refl));
         rest = refl;
       };
     }
