@@ -14,7 +14,7 @@ import sys
 
 KIT = "/opt/rattle/rattle"
 IDENT = re.compile(r"[^\s(){}\[\];,.⌜⌝|\"]+")
-SIGNATURE = re.compile(r"^\s*(?:abbrev |unfoldable |private |pub |axiom )*([^\s(){}\[\];,.:|]+)\s*:(?=\s)(.*)$")
+SIGNATURE = re.compile(r"^\s*(?:abbrev |unfoldable |private |pub |axiom )*([^\s(){}\[\];,.:|]+)\s*:(?=\s|$)(.*)$")
 HEAD = re.compile(r"^\s*(?:abbrev |unfoldable |pub )*(?:record|data)\s+([^\s(){}\[\];,.:|]+)")
 IMPORT = re.compile(r"^\s*(?:pub )?(?:ghost )?use (?:Rattle\.)?(\w+)[^{]*\{([^}]*)\}")
 HYPHENED = re.compile(r"^[A-Za-z][^\s]*-[^\s]*$")

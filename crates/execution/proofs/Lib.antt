@@ -6,3 +6,4 @@ pub mod Coordinates
 pub mod Valued
 pub mod LeavesWritten
 pub mod Results
+pub mod Outcomes

@@ -19,7 +19,7 @@ use Rattle.model.proofs.PathSums.{over_paths_same, at_key, entries_sum, paths_al
 use Rattle.model.proofs.DeadPaths.{point}
 use Rattle.model.proofs.Assignments.{assign, pick, picked, bound, over_same}
 use Rattle.model.proofs.PathReferences.{used, load_held, dead_value}
-use Rattle.model.proofs.PathKeys.{distinct_rest, has_rest, key-is, counted, sums_rest, over_assigned, over_all_same}
+use Rattle.model.proofs.PathKeys.{distinct_rest, has_rest, key_is, counted, sums_rest, over_assigned, over_all_same}
 use Rattle.model.proofs.MergedFibers.{merges_well}
 use Rattle.model.proofs.Distribution.{in_bag, expr_value, distribute, over_bags, bags_occur, of_bag}
 use Rattle.model.proofs.SummationOrder.{over_rearranged}
@@ -105,7 +105,7 @@ module _ {V : Type 0} (K : Algebra V) (laws : Laws K) (T : ℕ → Storage V) (e
       entries_sum K laws T acs t.body extent k _ (over_vars K T left order t) (sum_down K T acs t.body left vs (value_of K T acs t.body vs))
       ∙ over_paths_same K laws T acs t.body extent (over_vars K T left order t) _ (counted K laws T acs t.body extent s left k (over_vars K T left order t) (sum_down K T acs t.body left vs (value_of K T acs t.body vs)))
       (λ p e. ap (λ l. cond (same l k) (sum_down K T acs t.body left vs (value_of K T acs t.body vs) p) K.zero)
-      (key-is K laws T acs t.body extent s left (over_vars K T left order t) p e (distinct_rest K T acs t.body left vs vars_distinct) (λ w h. has_rest K T acs t.body left vs w h (lefts w h))))
+      (key_is K laws T acs t.body extent s left (over_vars K T left order t) p e (distinct_rest K T acs t.body left vs vars_distinct) (λ w h. has_rest K T acs t.body left vs w h (lefts w h))))
       ∙ sums_rest K laws T acs t.body extent s left k vs (value_of K T acs t.body vs)
       ∙ paths_all K laws T acs t.body extent vs (counted K laws T acs t.body extent s left k vs (value_of K T acs t.body vs))
       (merges_well K laws T acs t.body extent (λ i v h. (fit.stored i (access_below acs i v h)).fits v h) vs occurs_all)

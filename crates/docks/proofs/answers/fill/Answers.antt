@@ -14,7 +14,7 @@ loop-i-preserved g c =
     let w = λ (e : Entry). worth (leg_at c.args.side e) in
     let n = length_row stored w ds in
     let is = leg_read stored w ds c.loop-i.i c.index-docks-i.result c.plain.result c.loop-i-test.true c.index-docks-i.is
-    (c.plain.ensures ∙ ap stored (c.leg_in-loop-i.ensures ∙ ap worth c.leg.ensures)) in
+    (c.plain.ensures ∙ ap stored (c.leg-in-loop-i.ensures ∙ ap worth c.leg.ensures)) in
     ap (λ s. set s c.loop-i.i c.plain.result) c.loop-i.invariant
     ∙ over_more (map stored (row worth c.args.side (map entry_of ds))) c.args.out.now c.loop-i.i c.plain.result (omega arith) (omega arith) is
 

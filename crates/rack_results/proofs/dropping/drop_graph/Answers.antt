@@ -1,7 +1,7 @@
 use Rattle.std.proofs.Common.{refl}
 use Rattle.plans.specs.Rooms.{rules_of}
 use Rattle.rack_state.specs.Snapshots.{view}
-use Rattle.rack_results.proofs.Graphs.{drop_none, drop-loaded}
+use Rattle.rack_results.proofs.Graphs.{drop_none, drop_loaded}
 use Rattle.rack_results.proofs.dropping.drop_graph.Goals as goal
 
 pub returns-in_default : goal.returns-in_default
@@ -14,7 +14,7 @@ returns-in_default g c = record {
 pub returns : goal.returns
 returns g c = record {
   does =
-      drop-loaded g.V.Semiring.algebra g.V.Semiring.reads (rules_of g.S.Formats.wants g.S.Formats.births) g.S.Formats.meaning (view c.args.rack.now) c.in-Some.loaded
+      drop_loaded g.V.Semiring.algebra g.V.Semiring.reads (rules_of g.S.Formats.wants g.S.Formats.births) g.S.Formats.meaning (view c.args.rack.now) c.in-Some.loaded
       c.in-Some.is _ (record { sizes = refl; slots = refl; words = refl; values = refl; keys = refl; sums = refl }) refl refl;
   freed = (c.clear.ensures, refl);
 }

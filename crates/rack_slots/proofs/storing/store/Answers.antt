@@ -4,8 +4,8 @@ use Rattle.plans.specs.Requests.{request, fault_of}
 use Rattle.plans.specs.Rooms.{rules_of}
 use Rattle.slots.specs.Areas.{state_of}
 use Rattle.rack_state.specs.Snapshots.{view}
-use Rattle.rack_slots.proofs.Frames.{in-same-room}
-use Rattle.rack_slots.proofs.Stores.{store_busy, store-refused, store_accepted}
+use Rattle.rack_slots.proofs.Frames.{in_same_room}
+use Rattle.rack_slots.proofs.Stores.{store_busy, store_refused, store_accepted}
 use Rattle.rack_slots.proofs.storing.store.Goals as goal
 
 pub returns-then-is_busy : goal.returns-then-is_busy
@@ -19,7 +19,7 @@ returns-in-Ok g c =
     let rules = rules_of g.S.Formats.wants g.S.Formats.births in
     let q = request c.args.slot c.args.rank c.args.extents.now c.args.formats.now c.args.coordinates.now (map g.V.Semiring.reads c.args.entries.now) in
     let e = c.in-Ok.ensures in
-    in-same-room g.V.Semiring.algebra g.V.Semiring.reads rules g.S.Formats.meaning (STORE q) s (stored c.in-Ok.used) (state_of c.store.new.areas) c.args.rack.now.tensors.room
+    in_same_room g.V.Semiring.algebra g.V.Semiring.reads rules g.S.Formats.meaning (STORE q) s (stored c.in-Ok.used) (state_of c.store.new.areas) c.args.rack.now.tensors.room
     c.store.new.areas.room e.room
     (store_accepted g.V.Semiring.algebra g.V.Semiring.reads rules g.S.Formats.meaning q s c.if-is_busy.ensures g.S.Formats.kept g.met.S.Formats.lawful refl
     c.args.rack.now.tensors.room.few_positions c.in-Ok.used (state_of c.store.new.areas) e.stored)
@@ -30,7 +30,7 @@ returns-in-Err g c =
     let rules = rules_of g.S.Formats.wants g.S.Formats.births in
     let q = request c.args.slot c.args.rank c.args.extents.now c.args.formats.now c.args.coordinates.now (map g.V.Semiring.reads c.args.entries.now) in
     let e = c.in-Err.ensures in
-    in-same-room g.V.Semiring.algebra g.V.Semiring.reads rules g.S.Formats.meaning (STORE q) s (refused (fault_of c.in-Err.fault)) (state_of c.store.new.areas)
+    in_same_room g.V.Semiring.algebra g.V.Semiring.reads rules g.S.Formats.meaning (STORE q) s (refused (fault_of c.in-Err.fault)) (state_of c.store.new.areas)
     c.args.rack.now.tensors.room c.store.new.areas.room e.room
-    (store-refused g.V.Semiring.algebra g.V.Semiring.reads rules g.S.Formats.meaning q s c.if-is_busy.ensures (fault_of c.in-Err.fault) (state_of c.store.new.areas)
+    (store_refused g.V.Semiring.algebra g.V.Semiring.reads rules g.S.Formats.meaning q s c.if-is_busy.ensures (fault_of c.in-Err.fault) (state_of c.store.new.areas)
     e.stored.0 e.stored.1)

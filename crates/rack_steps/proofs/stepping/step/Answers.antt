@@ -4,7 +4,7 @@ use Rattle.plans.specs.Rooms.{rules_of}
 use Rattle.rack_state.specs.Snapshots.{view}
 use Rattle.rack_steps.specs.Working.{working}
 use Rattle.rack_steps.proofs.Lending.{lent}
-use Rattle.rack_steps.proofs.StepCases.{refuses_empty, refuses_drained, refuses_missed, refuses-full, steps}
+use Rattle.rack_steps.proofs.StepCases.{refuses_empty, refuses_drained, refuses_missed, refuses_full, steps}
 use Rattle.rack_steps.proofs.stepping.step.Goals as goal
 
 pub returns-in_default : goal.returns-in_default
@@ -30,11 +30,11 @@ returns-then-not-carry_within g c =
     let rules = rules_of g.S.Formats.wants g.S.Formats.births in
     let carried =
     lent g.V.Semiring.algebra g.V.Semiring.reads rules g.S.Formats.meaning rack (meant c.in-Some-command_at.placed.command) false
-    c.deref-mut.result.now c.deref-mut-2.result.now c.deref-mut-3.result.now c.deref-mut-4.result.now
+    c.deref_mut.result.now c.deref_mut-2.result.now c.deref_mut-3.result.now c.deref_mut-4.result.now
     (working x.tapes x.words x.values x.keys x.sums x.count)
-    c.deref-mut.ensures.value c.deref-mut-2.ensures.value c.deref-mut-3.ensures.value c.deref-mut-4.ensures.value
+    c.deref_mut.ensures.value c.deref_mut-2.ensures.value c.deref_mut-3.ensures.value c.deref_mut-4.ensures.value
     kept.words kept.values kept.keys kept.sums c.if-not-carry_within.ensures in
-    refuses-full g.V.Semiring.algebra g.V.Semiring.reads rules g.S.Formats.meaning (view rack) c.in-Some.loaded c.in-Some.is c.if-loaded-rack.false
+    refuses_full g.V.Semiring.algebra g.V.Semiring.reads rules g.S.Formats.meaning (view rack) c.in-Some.loaded c.in-Some.is c.if-loaded-rack.false
     c.in-Some-command_at.placed c.in-Some-command_at.ensures.model rack.rooms.few_values rack.rooms.few_places _ carried
     (subst (λ n. rack.rooms.stream_words ≤ n) rack.stream_words.ok.0 rack.words_fit)
     (subst (λ n. rack.rooms.stream_values ≤ n) rack.stream_values.ok.0 rack.values_fit)
@@ -49,9 +49,9 @@ returns g c =
     let rules = rules_of g.S.Formats.wants g.S.Formats.births in
     let carried =
     lent g.V.Semiring.algebra g.V.Semiring.reads rules g.S.Formats.meaning rack (meant c.in-Some-command_at.placed.command) true
-    c.deref-mut.result.now c.deref-mut-2.result.now c.deref-mut-3.result.now c.deref-mut-4.result.now
+    c.deref_mut.result.now c.deref_mut-2.result.now c.deref_mut-3.result.now c.deref_mut-4.result.now
     (working x.tapes x.words x.values x.keys x.sums x.count)
-    c.deref-mut.ensures.value c.deref-mut-2.ensures.value c.deref-mut-3.ensures.value c.deref-mut-4.ensures.value
+    c.deref_mut.ensures.value c.deref_mut-2.ensures.value c.deref_mut-3.ensures.value c.deref_mut-4.ensures.value
     kept.words kept.values kept.keys kept.sums c.if-not-carry_within.ensures in
     let more : c.in-Some.loaded.done + 1 ≡ suc c.in-Some.loaded.done = omega arith in
     steps g.V.Semiring.algebra g.V.Semiring.reads rules g.S.Formats.meaning (view rack) c.in-Some.loaded c.in-Some.is c.if-loaded-rack.false

@@ -18,8 +18,8 @@ returns g c =
     (slot_sizes a.room.level_words a.room.positions)
     (request c.args.slot c.args.rank c.args.extents.now c.args.formats.now c.args.coordinates.now (map g.V.Semiring.reads c.args.entries.now))
     (slot_state (slot_list a.slots) w v) c.store_in.result (slot_state (slot_list c.store_in.new.slots) x y) in
-    let words-was = c.deref-mut.ensures.value in
-    let values-was = c.deref-mut-2.ensures.value in
+    let words-was = c.deref_mut.ensures.value in
+    let values-was = c.deref_mut-2.ensures.value in
     let words_are : vec_items (with_items a.words ws) ≡ ws = with_items_is a.words ws (c.store_in.auto.words ∙ ap length words-was ∙ sym a.words.ok.0) in
     let values_are : vec_items (with_items a.values vs) ≡ vs = with_items_is a.values vs (c.store_in.auto.values ∙ ap length values-was ∙ sym a.values.ok.0) in
     record {
@@ -28,5 +28,5 @@ returns g c =
           subst (λ x. Then (vec_items a.words) (vec_items a.values) x (vec_items (with_items a.values vs))) (sym words_are)
           (subst (λ y. Then (vec_items a.words) (vec_items a.values) ws y) (sym values_are)
           (subst (λ v. Then (vec_items a.words) v ws vs) values-was
-          (subst (λ w. Then w c.deref-mut-2.result.now ws vs) words-was c.store_in.ensures)));
+          (subst (λ w. Then w c.deref_mut-2.result.now ws vs) words-was c.store_in.ensures)));
     }

@@ -8,7 +8,11 @@ invariant_of-self g c =
     let t = c.args.self.now in
     let r = c.in-Some.ensures in
     let a = table_ascends k.reads t.keys.now t.values.now t.len t.fit t.paired t.ascends in
-    (omega arith, (omega arith, (row_ascends k.reads c.add.new.keys c.add.new.values c.in-Some.n (omega arith) (omega arith) (r.ascends a), tt)))
+    record {
+      fit = omega arith;
+      paired = omega arith;
+      ascends = row_ascends k.reads c.add.new.keys c.add.new.values c.in-Some.n (omega arith) (omega arith) (r.ascends a);
+    }
 
 pub returns-in-Some : goal.returns-in-Some
 returns-in-Some g c =
@@ -16,7 +20,7 @@ returns-in-Some g c =
     let t = c.args.self.now in
     let r = c.in-Some.ensures in
     let a = table_ascends k.reads t.keys.now t.values.now t.len t.fit t.paired t.ascends in
-    record { held = (r.table a, r.keys_past, r.values_past); keys = refl {a = t.keys.name}; values = refl {a = t.values.name} }
+    record { held = (r.table a, r.keys_past, r.values_past); keys = refl {a = t.keys.ghost_name}; values = refl {a = t.values.ghost_name} }
 
 pub returns-in-None : goal.returns-in-None
 returns-in-None g c =
@@ -24,4 +28,4 @@ returns-in-None g c =
     let t = c.args.self.now in
     let r = c.in-None.ensures in
     let a = table_ascends k.reads t.keys.now t.values.now t.len t.fit t.paired t.ascends in
-    record { held = (r.0, r.1, refl {a = t.len}, r.2 a); keys = refl {a = t.keys.name}; values = refl {a = t.values.name} }
+    record { held = (r.0, r.1, refl {a = t.len}, r.2 a); keys = refl {a = t.keys.ghost_name}; values = refl {a = t.values.ghost_name} }
