@@ -57,10 +57,10 @@ module _ {V : Type 0} (K : Algebra V) (T : ℕ → Storage V) (acs : List Access
       go false false q r h1 ih = ih h1
 
 module _ {V : Type 0} (K : Algebra V) (laws : Laws K) (T : ℕ → Storage V) (acs : List Access) (body : Expr) (extent : ℕ → ℕ) where
-  pub key-is :
+  pub key_is :
       (s : Assignment) (left vs : List ℕ) (p : LeafPath) → length p ≡ length vs → Distinct vs → ((w : ℕ) → has left w ≡ true → has vs w ≡ true)
       → key (map (λ v. place (reverse vs) v + 1) left) p ≡ map (assign s vs p) left
-  key-is s left vs p e d all =
+  key_is s left vs p e d all =
       map-map (λ m. get_or (reverse p) (m - 1) 0) (λ v. place (reverse vs) v + 1) left
       ∙ map_same left (λ v. get_or (reverse p) (place (reverse vs) v + 1 - 1) 0) (assign s vs p)
       (λ w h. (let one : place (reverse vs) w + 1 - 1 ≡ place (reverse vs) w = omega arith in ap (λ n. get_or (reverse p) n 0) one) ∙ at_place s vs p w e d (all w h))

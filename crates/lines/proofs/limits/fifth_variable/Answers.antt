@@ -2,7 +2,7 @@ use Rattle.std.proofs.Common.{◌<◌, length, get_or, sym, subst, arith}
 use Rattle.lines.specs.Sets.{With}
 use Rattle.lines.proofs.Counting.{counted_none, counted_all, counted_skips, new_var, fifth_found, counted_on}
 use Rattle.lines.proofs.limits.fifth_variable.Goals as goal
-use Rattle.lines.proofs.limits.fifth_variable.Goals.{then_is_new+else_count_ge4, else_is_new}
+use Rattle.lines.proofs.limits.fifth_variable.Goals.{then-is_new+else-count-ge4, else-is_new}
 
 pub loop-i-init : goal.loop-i-init
 loop-i-init c = counted_none _ _ c.new-seen.ensures
@@ -17,10 +17,10 @@ pub loop-i-preserved : goal.loop-i-preserved
 loop-i-preserved c =
     let h : c.loop-i.i < length c.args.text.now = omega arith in
     elim c.if-is_new.branch [
-      | then_is_new+else_count_ge4 w ↦
+      | then-is_new+else-count-ge4 w ↦
           counted_on c.args.text.now c.loop-i.i c.loop-i.seen c.loop-i.count c.loop-i.invariant h w.if-is_new.ensures c.if-is_new.seen _ w.if-count-ge4.false w.count-is
           (subst (With c.loop-i.seen (get_or c.args.text.now c.loop-i.i 0)) (sym w.seen-is) w.insert.ensures)
-      | else_is_new w ↦ counted_skips _ _ _ _ c.loop-i.invariant h _ _ w.seen-is w.count-is w.if-is_new.ensures
+      | else-is_new w ↦ counted_skips _ _ _ _ c.loop-i.invariant h _ _ w.seen-is w.count-is w.if-is_new.ensures
     ]
 
 pub returns : goal.returns
