@@ -1,6 +1,7 @@
 -- All that a rack is at one time: its sizes, its slots, its graph, and what every area holds. Assumes nothing.
 use Rattle.std.specs.Prelude.{ℕ, List, length, None, vec_items, vec_len, Option}
 use Rattle.model.specs.Stores as model
+use Rattle.semiring.specs.declared.Semiring.{Ghosts}
 use Rattle.slots.specs.Areas.{SlotState, slot_state, state_of}
 use Rattle.streams.specs.declared.record.Tapes.{Tapes}
 use Rattle.results.specs.declared.key.ResultKey.{ResultKey}
@@ -23,7 +24,7 @@ pub record Snapshot (P : Type 0) : Type 0 where
   pub sums : List P
   pub count : ℕ
 
-abbrev pub view : {V S P : Type 0} → RackState V S P → Snapshot P
+abbrev pub view : {V S P : Type 0} {G : Ghosts V P} → RackState V S P G → Snapshot P
 view r =
     record {
       sizes =

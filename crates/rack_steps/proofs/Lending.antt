@@ -8,6 +8,7 @@ use Rattle.model.specs.Fibers.{Level}
 use Rattle.model.specs.Formats.{LevelSize}
 use Rattle.model.specs.Commands.{Command}
 use Rattle.model.specs.Stores.{FormatRules}
+use Rattle.semiring.specs.declared.Semiring.{Ghosts}
 use Rattle.slots.specs.Areas.{SlotState, state_of}
 use Rattle.results.specs.declared.key.ResultKey.{ResultKey}
 use Rattle.rack_state.specs.Snapshots.{view}
@@ -63,7 +64,7 @@ module _ {P V : Type 0} (K : Algebra V) (reads : P → V) (rules : FormatRules) 
       none a = omega arith
 
 -- the areas of a rack that were lent whole
-module _ {P V S : Type 0} (K : Algebra V) (reads : P → V) (rules : FormatRules) (meaning : ℕ → LevelSize → List ℕ → Level) (rack : RackState V S P) (c : Command) (r : Bool) where
+module _ {P V S : Type 0} {G : Ghosts V P} (K : Algebra V) (reads : P → V) (rules : FormatRules) (meaning : ℕ → LevelSize → List ℕ → Level) (rack : RackState V S P G) (c : Command) (r : Bool) where
   pub lent : (words : List ℕ) (values : List P) (keys : List ResultKey) (sums : List P) (x : Working P)
       → words ≡ vec_items rack.stream_words → values ≡ vec_items rack.stream_values → keys ≡ vec_items rack.keys → sums ≡ vec_items rack.sums
       → length x.words ≡ length words → length x.values ≡ length values → length x.keys ≡ length keys → length x.sums ≡ length sums

@@ -13,14 +13,14 @@ pub invariant_of-result : goal.invariant_of-result
 invariant_of-result g c =
     let h : Right (sizes_given c.args.sizes) (lengths c.args.areas) = right (sizes_given c.args.sizes) (lengths c.args.areas) (sym c.if-are_wrong.ensures) in
     let e = c.in-Some.ensures in
-    (omega (arith, h.level_area, e.2), (omega (arith, h.slot_area, e.1), tt))
+    record { words_fit = omega (arith, h.level_area, e.2); values_fit = omega (arith, h.slot_area, e.1) }
 
 pub invariant_of-result-2 : goal.invariant_of-result-2
 invariant_of-result-2 g c =
     let h : Right (sizes_given c.args.sizes) (lengths c.args.areas) = right (sizes_given c.args.sizes) (lengths c.args.areas) (sym c.if-are_wrong.ensures) in
-    (h.stream_words.1, (h.stream_values.1, (h.places.1, tt)))
+    record { few_words = h.stream_words.1; few_values = h.stream_values.1; few_places = h.places.1 }
 
 pub invariant_of-result-3 : goal.invariant_of-result-3
 invariant_of-result-3 g c =
     let h : Right (sizes_given c.args.sizes) (lengths c.args.areas) = right (sizes_given c.args.sizes) (lengths c.args.areas) (sym c.if-are_wrong.ensures) in
-    (h.words_area, (h.values_area, (h.keys_area, (h.sums_area, tt))))
+    record { words_fit = h.words_area; values_fit = h.values_area; keys_fit = h.keys_area; sums_fit = h.sums_area }
