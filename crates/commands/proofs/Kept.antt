@@ -1,14 +1,13 @@
 -- A command of the model, held and read back.
-use Rattle.std.proofs.Common.{◌≡◌, ℕ, zero, suc, ◌+◌, ◌-◌, ◌<◌, ◌≤◌, Bool, true, false, cond, eqb, List, [], ◌∷◌, ◌++◌, length, take, sym, refl, ap, ◌∙◌, arith}
+use Rattle.std.proofs.Common.{◌≡◌, ℕ, zero, suc, ◌≤◌, eqb, List, [], ◌∷◌, ◌++◌, length, take, sym, refl, ap, ◌∙◌, arith}
 use Rattle.std.specs.List.{AllByRecursion as All}
 use Rattle.std.proofs.lemmas.Bool.{ne_eqb, cond-false}
 use Rattle.commands.specs.declared.command.Decoded.{Decoded}
-use Rattle.commands.specs.Bytes.{bytes, depth_streams, key_depths, Rereads}
+use Rattle.commands.specs.Bytes.{depth_streams, key_depths, Rereads}
 use Rattle.commands.proofs.Operands.{spread_all}
 use Rattle.model.specs.Commands as model
 use Rattle.model.specs.Commands.{bytes_of, filled}
-use Rattle.model.specs.Bounds.{Small}
-use Rattle.commands.specs.Held.{held, streams_held, keys_held, meant, nonzero_front, Kept, ReadsModel}
+use Rattle.commands.specs.Held.{held, streams_held, keys_held, nonzero_front, Kept, ReadsModel}
 
 pub length_filled : (n fill : ℕ) (xs : List ℕ) → length (filled n fill xs) ≡ n
 length_filled zero fill xs = refl

@@ -1,24 +1,24 @@
 -- A line that is accepted over tensors that are held fits what the central theorem needs. Assumes nothing.
-use Rattle.std.proofs.Common.{◌≡◌, ℕ, zero, suc, ◌+◌, ◌<◌, ◌≤◌, Bool, true, false, cond, not, ◌&&◌, ◌||◌, eqb, ◌⊎◌, List, [], ◌∷◌, ◌++◌, map, length, get_or, IfSome, Some, None, Option, sym, refl, ap, ◌∙◌, subst, ap₂, inl, inr, true≢false, add-one, arith}
+use Rattle.std.proofs.Common.{◌≡◌, ℕ, zero, suc, ◌+◌, ◌<◌, ◌≤◌, Bool, true, false, cond, not, ◌||◌, eqb, ◌⊎◌, List, [], ◌∷◌, ◌++◌, map, length, get_or, IfSome, Some, None, Option, sym, refl, ap, ◌∙◌, subst, inl, inr, add-one, arith}
 use mathlib.Core.Bool.{false≢true}
 use Rattle.std.specs.Option.{option_map}
-use Rattle.std.specs.List.{flat_map, AllByRecursion as All}
+use Rattle.std.specs.List.{AllByRecursion as All}
 use Rattle.std.proofs.lemmas.List.{get_or_past}
 use Rattle.std.proofs.ByRecursion.{All-map, All-from_get_or}
 use Rattle.std.proofs.lemmas.Bool.{eqb-true, not-false, or_parts, cases_lt}
 use Rattle.model.specs.Semirings.{Algebra}
-use Rattle.model.specs.Fibers.{Level, fiber, fiber_at, coords, coord, Lawful}
+use Rattle.model.specs.Fibers.{Level, fiber, fiber_at, coords, Lawful}
 use Rattle.model.specs.Tensors.{has, same, Tensor, Storage, Stacked, Holds, held_value}
-use Rattle.model.specs.Terms.{Access, no_access, nth_access, occurs, kept}
-use Rattle.model.specs.Grammar.{Tree, Syntax, text, spell, Grammatical}
-use Rattle.model.specs.Reading.{Placed, accesses, expression, terms_from, term_of, line_of, body_place, placed_vars, placed_accesses, PlacedAccess}
+use Rattle.model.specs.Terms.{Access, no_access, nth_access, kept}
+use Rattle.model.specs.Grammar.{Syntax, spell, Grammatical}
+use Rattle.model.specs.Reading.{Placed, accesses, terms_from, term_of, line_of, body_place, placed_vars, placed_accesses, PlacedAccess}
 use Rattle.model.specs.Conditions.{Slots, Check, first_fault, Sized, over_limits, fits_slot, wrong_access, repeats, tree_vars, all_in, additions, uneven, extents_of, sized_vars, sized, access_vars, extent_of, other_extent, order_checks, order_vars, wrong_order, out_of_order, limits, access_rule, evenness, extents, loop_order, argument_order, judged, Accepts}
 use Rattle.model.specs.Lowering.{place}
 use Rattle.model.specs.Running.{nth_level}
 use Rattle.model.specs.Meaning.{Tensors, extents_seen, dense_of, dense_values, AllHold}
 use Rattle.model.proofs.Fit.{Good, Distinct, FitAccess, FitTerm, FitLine}
 use Rattle.model.proofs.Faults.{Pass, Passes, every_passes, neither, no_fault, all_front, all_back, all_mapped, all_joined, all_both, all_as, all_nth, same_is, once_each, all_in_has, order_once}
-use Rattle.model.proofs.Readings.{vars_of, all_placed, all_terms, placed_tree, from_start, occurs_tree, nth_has, has_some}
+use Rattle.model.proofs.Readings.{all_placed, all_terms, placed_tree, from_start, occurs_tree, nth_has, has_some}
 use Rattle.model.proofs.Evens.{even_tree, terms_pass}
 
 -- the fibers of a lawful level ascend below its extent

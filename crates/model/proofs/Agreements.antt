@@ -1,11 +1,10 @@
 -- Lines that multiply out alike have the same accesses; over tensors that agree in the slots they name, the extents of their variables agree, and the dense values. Assumes nothing.
-use Rattle.std.proofs.Common.{◌≡◌, ℕ, ◌+◌, ◌<◌, ◌≤◌, Bool, true, false, cond, ◌&&◌, eqb, ◌⊎◌, List, [], ◌∷◌, ◌++◌, map, length, get_or, sym, refl, ap, ◌∙◌, subst, ap₂, inl, inr, true≢false, arith}
-use mathlib.Core.Bool.{false≢true}
-use Rattle.std.specs.List.{flat_map, AllByRecursion as All}
+use Rattle.std.proofs.Common.{◌≡◌, ℕ, ◌+◌, ◌<◌, Bool, true, false, cond, eqb, List, [], ◌∷◌, ◌++◌, get_or, sym, refl, ap, ◌∙◌, subst, ap₂, inl, inr, arith}
+use Rattle.std.specs.List.{AllByRecursion as All}
 use Rattle.std.proofs.ByRecursion.{All-map}
 use Rattle.std.proofs.lemmas.Bool.{eq-eqb, eqb-true, and_parts, and_from}
 use Rattle.model.specs.Tensors.{has, same}
-use Rattle.model.specs.Terms.{Access, Term, nth_access, occurs}
+use Rattle.model.specs.Terms.{Access, Term, occurs}
 use Rattle.model.specs.Grammar.{Tree, access, group, times, plus, Syntax}
 use Rattle.model.specs.Reading.{Placed, accesses, expression, terms_from, term_of, line_of, body_place}
 use Rattle.model.specs.Conditions.{extents_of, extent_of, tree_vars, Accepts}

@@ -2,14 +2,12 @@
 use Rattle.std.proofs.Common.{◌≡◌, ℕ, true, List, sym, ◌∙◌, subst}
 use Rattle.std.specs.List.{AllByRecursion as All}
 use Rattle.std.proofs.ByRecursion.{All-weaker}
-use Rattle.model.specs.Semirings.{Algebra, Laws, ZeroTest}
-use Rattle.model.specs.Tensors.{Storage, has}
+use Rattle.model.specs.Tensors.{has}
 use Rattle.model.specs.Terms.{Access}
-use Rattle.model.specs.Grammar.{Syntax}
 use Rattle.model.specs.Reading.{line_of}
 use Rattle.model.specs.Conditions.{extent_of}
-use Rattle.model.specs.Sums.{Bag, multiplied_out, listing}
-use Rattle.model.specs.Meaning.{Tensors, extents_seen, dense_values, Meaning, Agreement}
+use Rattle.model.specs.Sums.{multiplied_out}
+use Rattle.model.specs.Meaning.{extents_seen, dense_values, Meaning, Agreement}
 use Rattle.model.specs.Shapes.{WellShaped}
 use Rattle.model.proofs.LineMeaning.{fit_meaning, fit_commands}
 use Rattle.model.proofs.Acceptance.{accepted_fits}

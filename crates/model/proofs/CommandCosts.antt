@@ -10,7 +10,7 @@ use Rattle.model.specs.Trees.{Tree, Pairwise, Alike, tokens, tape, each, beside,
 use Rattle.model.specs.Streams.{Stream, coordinates, references, values, values_of, tape_of, words_of, all_words, all_values}
 use Rattle.model.specs.Commands.{Command, ROOT, SCAN, MEET, JOIN, ALIGN, REPEAT, LOAD, MUL, ADD, SUM, WRITE}
 use Rattle.model.specs.Blocks.{Key, in_both, put, in_either, standing, scanned_coordinates, scanned_children, merged, aligned, repeated, loaded, combined, summed}
-use Rattle.model.specs.Running.{Table, before, insert, inserts, nth_stream, nth_level, outputs}
+use Rattle.model.specs.Running.{Table, before, insert, inserts, nth_stream, nth_level}
 use Rattle.model.specs.Shapes.{SameShape, Combinable, Fits}
 use Rattle.model.specs.Costs.{tape_length, Cost, Costs}
 use Rattle.model.proofs.TapeLengths.{length_each, length_numbered, length_beside, length_gathers, leaves_beside}

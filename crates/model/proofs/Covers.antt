@@ -1,16 +1,11 @@
 -- The accesses of a line are those of the bags that it multiplies out to. Assumes nothing.
-use Rattle.std.proofs.Common.{◌≡◌, ℕ, ◌+◌, ◌<◌, ◌≤◌, Bool, true, false, cond, ◌&&◌, eqb, ◌⊎◌, List, [], ◌∷◌, ◌++◌, map, length, sym, refl, ap, ◌∙◌, subst, ap₂, inl, inr, true≢false, arith}
-use mathlib.Core.Bool.{false≢true}
+use Rattle.std.proofs.Common.{◌≡◌, ◌⊎◌, List, [], ◌∷◌, ◌++◌, map, sym, refl, ap, subst, inl, inr}
 use Rattle.std.specs.List.{flat_map, AllByRecursion as All}
 use Rattle.std.proofs.ByRecursion.{All-map}
-use Rattle.std.proofs.lemmas.Bool.{eq-eqb, eqb-true, and_parts, and_from}
-use Rattle.model.specs.Tensors.{same}
 use Rattle.model.specs.Terms.{Access, Expr, operand, product, sum, Parts, last, more, nth_access}
-use Rattle.model.specs.Grammar.{Tree, access, group, times, plus, Syntax}
-use Rattle.model.specs.Reading.{accesses, expression, terms_from, term_of, line_of, body_place}
-use Rattle.model.specs.Sums.{Bag, bags, bags_product, bags_sum, multiplied_out, often, all_pass, equally_often, same_access, same_bag, alike}
-use Rattle.model.proofs.Faults.{all_append, all_front, all_back, all_as, same_is, same_self}
-use Rattle.model.proofs.Readings.{standing, standing_in, standing_tree, from_start, all_terms}
+use Rattle.model.specs.Sums.{Bag, bags, bags_product, bags_sum}
+use Rattle.model.proofs.Faults.{all_append, all_front, all_back, all_as}
+use Rattle.model.proofs.Readings.{standing, standing_in}
 
 -- x is one of a list
 abbrev pub In : {A : Type 0} → A → List A → Type 0

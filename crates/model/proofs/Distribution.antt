@@ -1,5 +1,5 @@
 -- Multiplied out, an expression has the same value. Assumes nothing.
-use Rattle.std.proofs.Common.{◌≡◌, ℕ, zero, Bool, true, false, ◌||◌, List, [], ◌∷◌, ◌++◌, map, sym, refl, ap, ◌∙◌, subst, ap₂, true≢false, append-nil}
+use Rattle.std.proofs.Common.{◌≡◌, ℕ, Bool, true, false, ◌||◌, List, [], ◌∷◌, ◌++◌, map, sym, refl, ap, ◌∙◌, subst, ap₂, true≢false, append-nil}
 use mathlib.Core.Path.{fun_ext}
 use mathlib.Core.List.{map-append}
 use Rattle.std.specs.List.{flat_map, AllByRecursion as All}

@@ -1,12 +1,12 @@
 -- In every sum inside a term each part has the same variables. Assumes nothing.
-use Rattle.std.proofs.Common.{◌≡◌, ℕ, ◌+◌, ◌≤◌, Bool, true, false, not, ◌&&◌, ◌||◌, List, [], ◌∷◌, ◌++◌, length, sym, refl, ap, ◌∙◌, subst, ap₂, arith}
+use Rattle.std.proofs.Common.{◌≡◌, ℕ, ◌+◌, ◌≤◌, Bool, true, false, ◌||◌, List, ◌++◌, length, sym, refl, ap, ◌∙◌, subst, ap₂, arith}
 use Rattle.std.specs.List.{AllByRecursion as All}
 use Rattle.std.proofs.lemmas.Bool.{not-false}
 use Rattle.model.specs.Tensors.{has}
 use Rattle.model.specs.Terms.{Access, Parts, last, more, occurs}
 use Rattle.model.specs.Grammar.{Tree, access, group, times, plus, text, height, Grammatical}
-use Rattle.model.specs.Reading.{accesses, expression, factors, products, terms_from}
-use Rattle.model.specs.Conditions.{Check, tree_vars, same_vars, last_product, additions}
+use Rattle.model.specs.Reading.{accesses, expression, products, terms_from}
+use Rattle.model.specs.Conditions.{Check, tree_vars, last_product, additions}
 use Rattle.model.proofs.Fit.{Even, EvenIn, EachOccurs}
 use Rattle.model.proofs.Faults.{Pass, Passes, all_append, all_front, all_back, has_append, same_vars_has}
 use Rattle.model.proofs.Readings.{vars_append, From, from_front, from_back, occurs_tree, Known}

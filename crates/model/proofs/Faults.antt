@@ -1,8 +1,8 @@
 -- Where no place is at fault, every check passes; and tests over lists of numbers as facts. Assumes nothing.
-use Rattle.std.proofs.Common.{◌≡◌, ℕ, zero, suc, ◌+◌, ◌<◌, Bool, true, false, cond, not, ◌&&◌, ◌||◌, eqb, ◌⊎◌, List, [], ◌∷◌, ◌++◌, map, length, get_or, Some, None, Option, sym, refl, ap, ◌∙◌, subst, ap₂, inl, inr, true≢false, le_of_suc-le-suc, not-suc-le-zero}
+use Rattle.std.proofs.Common.{◌≡◌, ℕ, zero, suc, ◌+◌, ◌<◌, Bool, true, false, cond, not, ◌||◌, eqb, List, [], ◌∷◌, ◌++◌, map, length, get_or, Some, None, Option, sym, refl, ap, ◌∙◌, subst, ap₂, true≢false, le_of_suc-le-suc, not-suc-le-zero}
 use mathlib.Core.Bool.{false≢true}
 use Rattle.std.specs.List.{flat_map, AllByRecursion as All}
-use Rattle.std.proofs.lemmas.Bool.{eq-eqb, eqb-true, not-false, or_parts, or_cases, or_left, or_right, and_parts}
+use Rattle.std.proofs.lemmas.Bool.{eq-eqb, eqb-true, or_parts, and_parts}
 use Rattle.model.specs.Tensors.{has, same}
 use Rattle.model.specs.Conditions.{Check, first_fault, leftmost, LineFault, Rule, or_else, repeats, all_in, same_vars, order_checks}
 use Rattle.model.specs.Reading.{placed_vars}

@@ -1,7 +1,7 @@
 -- Every WRITE of a line's graph has a key for each left variable. Assumes nothing.
-use Rattle.std.proofs.Common.{◌≡◌, ℕ, List, [], ◌∷◌, length}
+use Rattle.std.proofs.Common.{ℕ, List, [], ◌∷◌, length}
 use Rattle.std.specs.List.{AllByRecursion as All}
-use Rattle.model.specs.Terms.{Access, Term}
+use Rattle.model.specs.Terms.{Term}
 use Rattle.model.specs.Reading.{line_of}
 use Rattle.model.specs.Lowering.{lower_term}
 use Rattle.model.specs.Named.{KeysOf, WritesKeys}

@@ -6,7 +6,7 @@ use Rattle.model.specs.Semirings.{Algebra, total}
 use Rattle.model.specs.Tensors.{Storage, value_at, has}
 use Rattle.model.specs.Trees.{Pairwise}
 use Rattle.model.specs.Streams.{Stream, values}
-use Rattle.model.specs.Terms.{Access, Expr, product, sum, Parts, last, more, no_access, nth_access, occurs, occurs_in}
+use Rattle.model.specs.Terms.{Access, Expr, Parts, last, more, no_access, nth_access, occurs, occurs_in}
 use Rattle.model.specs.Commands.{Command, MEET, JOIN, MUL, ADD, LOAD, SUM}
 use Rattle.model.specs.Blocks.{loaded, combined, summed}
 use Rattle.model.specs.Running.{Table, step, nth_stream}

@@ -1,12 +1,12 @@
 -- What an access holds at a path, and which merged coordinates there are. Assumes nothing.
-use Rattle.std.proofs.Common.{◌≡◌, ℕ, zero, suc, ◌+◌, Bool, true, false, cond, ◌||◌, eqb, List, [], ◌∷◌, ◌++◌, map, reverse, length, get_or, Some, None, Option, sym, refl, ap, ◌∙◌, ap₂, inl, inr, true≢false, append_assoc, append-nil, arith}
+use Rattle.std.proofs.Common.{◌≡◌, ℕ, suc, ◌+◌, Bool, true, false, cond, ◌||◌, eqb, List, [], ◌∷◌, ◌++◌, map, reverse, length, get_or, Some, None, Option, sym, refl, ap, ◌∙◌, ap₂, inl, inr, true≢false, append_assoc, append-nil, arith}
 use mathlib.Core.List.{map-append, reverse-cons}
 use Rattle.std.specs.List.{AllByRecursion as All}
 use Rattle.std.proofs.lemmas.Bool.{eq-eqb}
 use Rattle.model.specs.Semirings.{Algebra, Laws}
 use Rattle.model.specs.Fibers.{Fiber, Level, coords, child, fiber_at}
 use Rattle.model.specs.Tensors.{Storage, has, value_at, reached, held_value}
-use Rattle.model.specs.Terms.{Access, Expr, product, sum, nth_access, occurs, kept}
+use Rattle.model.specs.Terms.{Access, Expr, nth_access, occurs, kept}
 use Rattle.model.specs.Blocks.{in_both, in_either}
 use Rattle.model.specs.Running.{nth_level}
 use Rattle.model.specs.Lowering.{place}

@@ -1,5 +1,5 @@
 -- The paths that a term's merged coordinates lead along, and what stands at them. Assumes nothing.
-use Rattle.std.proofs.Common.{ℕ, zero, ◌+◌, true, cond, List, [], ◌∷◌, map, reverse, length, Some, None, Option}
+use Rattle.std.proofs.Common.{ℕ, ◌+◌, true, cond, List, [], ◌∷◌, map, reverse, length, Some, None, Option}
 use Rattle.model.specs.Semirings.{Algebra, total}
 use Rattle.model.specs.Fibers.{Fiber, fiber_at, coords, child}
 use Rattle.model.specs.Tensors.{Storage, value_at, has}

@@ -1,9 +1,9 @@
 -- Commands that fit make streams of small payloads and small depths. Assumes nothing.
-use Rattle.std.proofs.Common.{◌≡◌, ℕ, zero, suc, ◌+◌, ◌<◌, ◌≤◌, Bool, true, false, cond, eqb, List, [], ◌∷◌, ◌++◌, map, length, get_or, Some, None, Option, sym, refl, ap, ◌∙◌, subst, arith, length-append}
+use Rattle.std.proofs.Common.{◌≡◌, ℕ, zero, suc, ◌+◌, ◌<◌, Bool, true, false, cond, eqb, List, [], ◌∷◌, ◌++◌, map, length, get_or, Some, None, Option, sym, ap, subst, arith, length-append}
 use Rattle.std.specs.List.{AllByRecursion as All}
 use Rattle.std.proofs.ByRecursion.{All-append, All-get_or, All-weaker}
 use Rattle.model.specs.Semirings.{Algebra, zipped}
-use Rattle.model.specs.Fibers.{Fiber, Level, coords, fiber_at}
+use Rattle.model.specs.Fibers.{fiber_at}
 use Rattle.model.specs.Tensors.{Storage}
 use Rattle.model.specs.Trees.{Tree, each, beside}
 use Rattle.model.specs.Streams.{Stream, coordinates, references, values}

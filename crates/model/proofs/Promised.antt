@@ -1,20 +1,19 @@
 -- From the central theorem to what a rack promises by its book. Assumes nothing.
-use Rattle.std.proofs.Common.{◌≡◌, ℕ, zero, suc, ◌+◌, ◌-◌, ◌<◌, ◌≤◌, Bool, true, false, cond, not, eqb, List, [], ◌∷◌, length, take, IfSome, Some, None, MatchBool, Option, sym, refl, ap, ◌∙◌, subst, true≢false, arith, MatchOption}
-use mathlib.Core.Bool.{false≢true}
+use Rattle.std.proofs.Common.{◌≡◌, ℕ, suc, ◌+◌, ◌-◌, ◌≤◌, Bool, true, false, cond, List, length, IfSome, Some, None, MatchBool, Option, sym, refl, ap, ◌∙◌, subst, arith, MatchOption}
 use Rattle.std.specs.List.{slice_get}
 use Rattle.std.specs.Option.{option_map}
 use Rattle.std.proofs.lemmas.List.{take_all}
-use Rattle.std.proofs.lemmas.Bool.{eqb-true, eqb-false, eq-eqb, ne_eqb}
+use Rattle.std.proofs.lemmas.Bool.{eqb-true, eqb-false}
 use Rattle.model.specs.Semirings.{Algebra, Laws, ZeroTest}
-use Rattle.model.specs.Tensors.{Storage, Holds}
+use Rattle.model.specs.Tensors.{Holds}
 use Rattle.model.specs.Grammar.{Syntax}
-use Rattle.model.specs.Reading.{accesses, line_of}
+use Rattle.model.specs.Reading.{line_of}
 use Rattle.model.specs.Running.{nothing_yet, run, results, space}
 use Rattle.model.specs.Sums.{alike}
 use Rattle.model.specs.Conditions.{Accepts, Outcome, accepted, Reads, OneAnswer}
 use Rattle.model.specs.Lowering.{lowered}
-use Rattle.model.specs.Meaning.{AllHold, Meaning, Agreement, final_table, line_listing, extents_seen, AgreeOn}
-use Rattle.model.specs.Calls.{Call, STORE, COMPILE, STEP, READ, DROP, Fault, busy, drained, not_drained, full, Answer, stored, compiled, stepped, listed, dropped, refused}
+use Rattle.model.specs.Meaning.{AllHold, Meaning, Agreement, line_listing, extents_seen}
+use Rattle.model.specs.Calls.{Call, STORE, COMPILE, STEP, READ, DROP, busy, drained, not_drained, full, Answer, compiled, stepped, listed, refused}
 use Rattle.model.specs.Stores.{Sizes, FormatRules}
 use Rattle.model.specs.Books.{Slot, Loaded, Book, new_book, storage_of, tensors_of, commands_of, remaining, is_drained, is_busy, after_commands, state_of, fits, compile_answer, step_answer, read_answer, drop_answer, advanced, Answers, Written, store, compile, step, read, drop, refuse}
 use Rattle.model.specs.Promises.{SlotsHold, History, none, call, Reached, Promised, PromisedAfter, Promises, Agreements}

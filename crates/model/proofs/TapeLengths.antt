@@ -1,11 +1,9 @@
 -- How long tapes are: it depends on the shape of the tree alone. Assumes nothing.
-use Rattle.std.proofs.Common.{◌≡◌, ℕ, zero, suc, ◌+◌, ◌≤◌, List, [], ◌∷◌, ◌++◌, map, length, sym, refl, ap, ◌∙◌, ap₂, arith, length-append}
-use mathlib.Core.Path.{fun_ext}
-use lib.ListN.{length-map}
+use Rattle.std.proofs.Common.{◌≡◌, ℕ, zero, suc, ◌+◌, List, [], ◌∷◌, ◌++◌, map, length, refl, arith, length-append}
 use Rattle.std.specs.List.{flat_map}
 use Rattle.model.specs.Semirings.{zipped}
-use Rattle.model.specs.Tokens.{Token, stop, done, word}
-use Rattle.model.specs.Trees.{Tree, tokens, tape, each, beside, gathered, Pairwise, Alike, sizes, numbers, renumbered}
+use Rattle.model.specs.Tokens.{Token, stop}
+use Rattle.model.specs.Trees.{Tree, tokens, each, beside, gathered, Pairwise, Alike, sizes, numbers, renumbered}
 
 abbrev closed : {A : Type 0} → (A → List Token) → ℕ → List A → List Token
 closed leaf n xs = flat_map leaf xs ++ stop n ∷ []

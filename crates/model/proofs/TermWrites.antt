@@ -1,5 +1,5 @@
 -- What the commands of a line add to the result table. Assumes nothing.
-use Rattle.std.proofs.Common.{◌≡◌, ℕ, zero, suc, ◌+◌, Bool, true, false, cond, List, [], ◌∷◌, ◌++◌, map, reverse, length, Some, sym, refl, ap, ◌∙◌, subst, append-nil}
+use Rattle.std.proofs.Common.{◌≡◌, ℕ, suc, ◌+◌, Bool, true, false, cond, List, [], ◌∷◌, ◌++◌, map, reverse, length, Some, sym, refl, ap, ◌∙◌, subst, append-nil}
 use mathlib.Core.List.{map-append, reverse-cons}
 use Rattle.std.specs.List.{flat_map, AllByRecursion as All}
 use Rattle.model.specs.Semirings.{Algebra}

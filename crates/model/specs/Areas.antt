@@ -1,7 +1,6 @@
 -- What the areas of a rack hold of a loaded graph. Assumes nothing.
 use Rattle.std.specs.Prelude.{◌≡◌, ℕ, ◌≤◌, List, map, length, take}
 use Rattle.model.specs.Semirings.{Algebra}
-use Rattle.model.specs.Blocks.{Key}
 use Rattle.model.specs.Commands.{filled}
 use Rattle.model.specs.Running.{stream_words, stream_values}
 use Rattle.model.specs.Books.{Loaded, state_of}

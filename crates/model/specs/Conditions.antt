@@ -1,10 +1,10 @@
 -- What is asked of a line beyond its grammar: the limits and the conditions, each by its first place at fault. Assumes nothing.
-use Rattle.std.specs.Prelude.{◌≡◌, ℕ, zero, suc, ◌+◌, ◌<◌, ◌≤◌, min, Bool, true, false, cond, not, ◌&&◌, ◌||◌, ◌⊎◌, List, [], ◌∷◌, ◌++◌, map, length, drop, Some, None, Option, ◌==◌, nat_lt}
+use Rattle.std.specs.Prelude.{◌≡◌, ℕ, suc, ◌+◌, ◌<◌, ◌≤◌, min, Bool, true, false, cond, not, ◌&&◌, ◌||◌, ◌⊎◌, List, [], ◌∷◌, ◌++◌, map, length, drop, Some, None, Option, ◌==◌, nat_lt}
 use Rattle.std.specs.List.{flat_map}
 use Rattle.model.specs.Tensors.{has, same}
-use Rattle.model.specs.Terms.{Access, kept}
+use Rattle.model.specs.Terms.{kept}
 use Rattle.model.specs.Grammar.{Tree, access, group, times, plus, Syntax, text, spell, WellFormed, NotGrammar}
-use Rattle.model.specs.Reading.{accesses, Placed, terms_from, body_place, order_place, PlacedAccess, accesses_from, placed_accesses, placed_vars}
+use Rattle.model.specs.Reading.{accesses, terms_from, body_place, order_place, PlacedAccess, placed_accesses, placed_vars}
 
 -- What a line sees of the slots: the extents of the tensor in a slot, or none where it is empty.
 abbrev pub Slots : Type 0

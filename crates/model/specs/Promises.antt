@@ -1,13 +1,12 @@
 -- What a rack promises, by its book, after any calls on a rack just made. Assumes nothing.
-use Rattle.std.specs.Prelude.{◌≡◌, ℕ, zero, suc, ◌+◌, ◌<◌, ◌≤◌, true, List, [], ◌∷◌, length, IfSome, Some, None, Option, MatchOption}
+use Rattle.std.specs.Prelude.{◌≡◌, ℕ, suc, ◌+◌, ◌<◌, true, List, [], ◌∷◌, length, IfSome, Some, Option, MatchOption}
 use Rattle.std.specs.List.{slice_get}
 use Rattle.model.specs.Semirings.{Algebra, Laws, ZeroTest}
 use Rattle.model.specs.Tensors.{Holds}
 use Rattle.model.specs.Reading.{accesses, line_of}
-use Rattle.model.specs.Running.{results}
 use Rattle.model.specs.Sums.{alike}
 use Rattle.model.specs.Meaning.{line_listing, AgreeOn}
-use Rattle.model.specs.Calls.{Call, STORE, COMPILE, STEP, READ, DROP, Answer, stored, compiled, stepped, listed, dropped, refused, drained, not_drained}
+use Rattle.model.specs.Calls.{Call, STORE, COMPILE, STEP, READ, DROP, Answer, compiled, stepped, listed, dropped, refused, drained, not_drained}
 use Rattle.model.specs.Stores.{Sizes, FormatRules}
 use Rattle.model.specs.Books.{Slot, Loaded, Book, new_book, storage_of, tensors_of, commands_of, remaining, Answers, Written}
 

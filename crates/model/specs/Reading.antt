@@ -1,5 +1,5 @@
 -- From a line as it is written to the line that is lowered; and where its parts stand in the text. Assumes nothing.
-use Rattle.std.specs.Prelude.{ℕ, zero, suc, ◌+◌, ◌-◌, List, [], ◌∷◌, ◌++◌, map, length}
+use Rattle.std.specs.Prelude.{ℕ, ◌+◌, ◌-◌, List, [], ◌∷◌, ◌++◌, map, length}
 use Rattle.model.specs.Grammar.{Tree, access, group, times, plus, Syntax, args, text}
 use Rattle.model.specs.Terms.{Access, Expr, operand, product, sum, Parts, last, more, Term, Line}
 

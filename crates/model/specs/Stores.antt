@@ -1,5 +1,5 @@
 -- What is asked of a STORE, and the sizes of the levels that it builds. Assumes nothing.
-use Rattle.std.specs.Prelude.{◌≡◌, ℕ, suc, ◌+◌, ◌*◌, Bool, true, false, cond, not, ◌||◌, ltb, List, [], ◌∷◌, map, length, take, drop, Some, None, sum, Option, ◌==◌, nat_le, nat_lt}
+use Rattle.std.specs.Prelude.{ℕ, suc, ◌*◌, Bool, true, false, cond, not, ◌||◌, ltb, List, [], ◌∷◌, map, length, take, drop, Some, None, sum, Option, ◌==◌, nat_le, nat_lt}
 use Rattle.model.specs.Formats.{LevelSize}
 use Rattle.model.specs.Tensors.{Tensor, same}
 use Rattle.model.specs.Running.{before}

@@ -1,7 +1,7 @@
-use Rattle.std.proofs.Common.{◌≡◌, ℕ, ◌+◌, ◌-◌, ◌<◌, ◌≤◌, List, [], ◌∷◌, ◌++◌, length, get_or, take, drop, Some, None, sym, refl, ap, ◌∙◌, arith}
+use Rattle.std.proofs.Common.{◌≡◌, ℕ, ◌+◌, ◌-◌, ◌<◌, List, [], ◌∷◌, ◌++◌, length, get_or, take, drop, Some, sym, refl, ap, ◌∙◌, arith}
 use Rattle.std.proofs.lemmas.List.{take-append-drop}
 use Rattle.commands.specs.declared.command.Decoded.TheVariants as decoded
-use Rattle.commands.specs.Bytes.{bytes, operands, Begins, Rereads}
+use Rattle.commands.specs.Bytes.{bytes, operands, Rereads}
 use Rattle.commands.proofs.Operands.{cut_off, no_block, nothing, prefix_free, not_end}
 use Rattle.commands.proofs.Kept.{reads_model}
 use Rattle.commands.proofs.decoding.decode.Goals as goal

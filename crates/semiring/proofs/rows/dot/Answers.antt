@@ -1,4 +1,4 @@
-use Rattle.std.proofs.Common.{◌≡◌, map, length, get_or, sym, ap, ◌∙◌, arith}
+use Rattle.std.proofs.Common.{map, ap, ◌∙◌, arith}
 use Rattle.model.specs.Semirings.{total, zipped}
 use Rattle.semiring.proofs.Steps.{total_more, total_all, length_products, product_read}
 use Rattle.semiring.proofs.rows.dot.Goals as goal

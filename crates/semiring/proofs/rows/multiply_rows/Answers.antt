@@ -1,4 +1,4 @@
-use Rattle.std.proofs.Common.{map, length, get_or, set, sym, refl, ap, ◌∙◌, arith}
+use Rattle.std.proofs.Common.{map, set, sym, refl, ap, ◌∙◌, arith}
 use Rattle.std.proofs.lemmas.List.{length-map}
 use Rattle.model.specs.Semirings.{zipped}
 use Rattle.semiring.proofs.Steps.{over_more, over_all, item_read, length_products, product_read}

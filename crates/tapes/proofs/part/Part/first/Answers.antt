@@ -1,4 +1,4 @@
-use Rattle.std.proofs.Common.{length, sym, ap, ⊎_elim, arith}
+use Rattle.std.proofs.Common.{length, ap, ⊎_elim, arith}
 use Rattle.tapes.proofs.Parts.{held_none, held_past, held_more}
 use Rattle.tapes.proofs.part.Part.first.Goals as goal
 
