@@ -4,33 +4,36 @@ use std::process::Abort;
 use std::test::Fail;
 
 // The command writes its bytes and no more, is read back from them, and writes nothing where one byte of room is missing.
-fn there_and_back(rt: &impl Abort, command: Command, bytes: &[u8]) -> Result<(), Fail> {
+fn there_and_back(rt: &impl Abort, command: Command, name: &str, bytes: &[u8]) {
     let len = bytes.len();
-    assert!(rt; 0 < len && len <= 12);
+    assert!(rt; 0 < len && len <= 12, "{name}");
     let before = [0xA5; 12];
     let mut area = before;
-    assert_eq!(rt; command.encode(&mut area[0..len - 1]), None);
-    assert_eq!(rt; area, before);
-    assert_eq!(rt; command.encode(&mut area), Some(len));
-    assert_eq!(rt; &area[0..len], bytes);
-    assert_eq!(rt; &area[len..12], &before[len..12]);
-    assert_eq!(rt; decode(&area), Decoded::Command(command));
-    Ok(())
+    assert_eq!(rt; command.encode(&mut area[0..len - 1]), None, "{name}");
+    assert_eq!(rt; area, before, "{name}");
+    assert_eq!(rt; command.encode(&mut area), Some(len), "{name}");
+    assert_eq!(rt; &area[0..len], bytes, "{name}");
+    assert_eq!(rt; &area[len..12], &before[len..12], "{name}");
+    assert_eq!(rt; decode(&area), Decoded::Command(command), "{name}");
 }
 
 // The bytes are those of the command, and of none where the last is missing.
-fn decodes(rt: &impl Abort, command: Command, bytes: &[u8]) -> Result<(), Fail> {
-    assert!(rt; 0 < bytes.len());
-    assert_eq!(rt; decode(bytes), Decoded::Command(command));
-    assert_eq!(rt; decode(&bytes[0..bytes.len() - 1]), Decoded::Unknown);
-    Ok(())
+fn decodes(rt: &impl Abort, command: Command, name: &str, bytes: &[u8]) {
+    assert!(rt; 0 < bytes.len(), "{name}");
+    assert_eq!(rt; decode(bytes), Decoded::Command(command), "{name}");
+    assert_eq!(rt;
+        decode(&bytes[0..bytes.len() - 1]),
+        Decoded::Unknown,
+        "{name}"
+    );
 }
 
 fn stands_for(rt: &impl Abort, command: Command, name: &str, bytes: &[u8]) -> Result<(), Fail> {
     assert_eq!(rt; command.name(), name);
-    assert_eq!(rt; command.len(), bytes.len(), "{}", name);
-    there_and_back(rt, command, bytes).note(name)?;
-    decodes(rt, command, bytes).note(name)
+    assert_eq!(rt; command.len(), bytes.len(), "{name}");
+    there_and_back(rt, command, name, bytes);
+    decodes(rt, command, name, bytes);
+    Ok(())
 }
 
 #[test]

@@ -1,5 +1,5 @@
 -- Texts cut at a byte: what a search for it finds. Assumes nothing.
-use Rattle.std.proofs.Common.{◌≡◌, ℕ, suc, ◌+◌, ◌<◌, ◌≤◌, Bool, true, false, cond, not, eqb, List, [], ◌∷◌, length, take, drop, Some, None, Err, sym, refl, ap, ◌∙◌, add-one, one-add, arith}
+use Rattle.std.proofs.Common.{◌≡◌, ℕ, suc, ◌+◌, ◌<◌, Bool, true, false, cond, not, eqb, List, [], ◌∷◌, length, take, drop, Some, None, Err, sym, refl, ap, ◌∙◌, one-add, arith}
 use Rattle.std.proofs.lemmas.Bool.{true≢false}
 use Rattle.docks.specs.Tables.{onto, lines, fields, of_fields}
 use Rattle.docks.specs.Pieces.{before, Cut}

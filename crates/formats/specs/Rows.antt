@@ -1,12 +1,12 @@
 -- What fibers made from lengths and items answer, and when they are a lawful level.
-use Rattle.std.specs.Prelude.{◌≡◌, ℕ, ◌+◌, ◌<◌, ◌≤◌, List, [], map, length, get_or, Some, None, slice_index, slice_index_or, refl}
+use Rattle.std.specs.Prelude.{◌≡◌, ℕ, ◌<◌, ◌≤◌, List, [], map, length, get_or, Some, None, slice_index, slice_index_or}
 use Rattle.std.proofs.Common.{sym, ap, ◌∙◌, arith}
 use Rattle.std.specs.List.{slice_get, range_with_len}
 use Rattle.std.specs.Option.{option_map}
 use Rattle.std.proofs.lemmas.List.FromFn.{length-map-range_with_len, get_or-map-range_with_len}
 use Rattle.std.proofs.lemmas.List.{get_or_past, get_or-map, length-map, ext_get_or}
 use Rattle.std.proofs.lemmas.Option.{slice_get-get_or, slice_get_past}
-use Rattle.model.specs.Fibers.{fiber, coord, coords, count_of, at_of, Lawful}
+use Rattle.model.specs.Fibers.{fiber, coords, count_of, at_of, Lawful}
 use Rattle.model.specs.Formats.{rows, Includes}
 use Rattle.formats.specs.Ascents.{ascends_from}
 

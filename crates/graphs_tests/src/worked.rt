@@ -51,16 +51,17 @@ fn lowers(
     graph: &mut Graph,
     area: &mut [u8; 1024],
 ) -> Result<(), Fail> {
-    let text = worked.line.as_bytes();
+    let line = worked.line;
+    let text = line.as_bytes();
     let Ok(parsed) = parse(text) else {
         return Err(Fail::new("not a line"));
     };
     let len = decode(rt, worked.graph, area)?;
-    assert_eq!(rt; lower(text, &parsed, graph), worked.commands);
-    assert_eq!(rt; graph.commands, worked.commands);
-    assert_eq!(rt; graph.streams, worked.streams);
-    assert_eq!(rt; graph.len, len);
-    assert!(rt; graph.bytes == *area);
+    assert_eq!(rt; lower(text, &parsed, graph), worked.commands, "{line}");
+    assert_eq!(rt; graph.commands, worked.commands, "{line}");
+    assert_eq!(rt; graph.streams, worked.streams, "{line}");
+    assert_eq!(rt; graph.len, len, "{line}");
+    assert!(rt; graph.bytes == *area, "{line}");
     Ok(())
 }
 
@@ -74,7 +75,7 @@ pub fn all_lower(rt: &impl Abort, lines: &[Worked]) -> Result<(), Fail> {
         streams: 9,
     };
     for worked in lines {
-        lowers(rt, worked, &mut graph, &mut area).note(worked.line)?;
+        lowers(rt, worked, &mut graph, &mut area)?;
     }
     Ok(())
 }

@@ -1,14 +1,13 @@
 -- Worked pieces: the definitions, tried on small cases. Assumes nothing.
-use Rattle.std.specs.Prelude.{◌≡◌, ℕ, zero, suc, Bool, true, List, [], ◌∷◌, map, length, Some, None, codes, Option}
+use Rattle.std.specs.Prelude.{◌≡◌, ℕ, zero, suc, true, List, [], ◌∷◌, map, Some, None, codes, Option}
 use Rattle.model.specs.Semirings.{Algebra}
 use Rattle.model.specs.Formats.{LevelSize, dense_level, compressed_level}
 use Rattle.model.specs.Fibers.{Level}
-use Rattle.model.specs.Tensors.{Tensor}
 use Rattle.model.specs.Tokens.{word}
 use Rattle.model.specs.Trees.{Tree, tape, number_token}
 use Rattle.model.specs.Streams.{values, values_of, words_of}
 use Rattle.model.specs.Blocks.{Key, summed}
-use Rattle.model.specs.Running.{Table, results, Space, space}
+use Rattle.model.specs.Running.{Table, results, space}
 use Rattle.model.specs.Grammar.{access, group, times as by, plus, Syntax, spell}
 use Rattle.model.specs.Reading.{line_of}
 use Rattle.model.specs.Lowering.{bytes_of_line}

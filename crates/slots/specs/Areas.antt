@@ -1,5 +1,5 @@
 -- What the slots and their areas are, and when areas are taken.
-use Rattle.std.specs.Prelude.{◌≡◌, ℕ, ◌*◌, ◌<◌, ◌≤◌, List, length, replicate, None, Ok, Err, vec_items, vec_len, Option, Result, Vec}
+use Rattle.std.specs.Prelude.{◌≡◌, ℕ, ◌*◌, ◌<◌, ◌≤◌, List, replicate, None, Ok, Err, vec_items, vec_len, Option, Result, Vec}
 use Rattle.std.specs.declared.alloc.Global.{Global}
 use Rattle.slots.specs.Records.{slot_list}
 use Rattle.slots.specs.declared.areas.SlotAreas.{SlotAreas}

@@ -1,4 +1,4 @@
-use Rattle.std.proofs.Common.{◌≡◌, sym, ◌∙◌, arith, below_more, true-eqb, false-eqb}
+use Rattle.std.proofs.Common.{sym, ◌∙◌, arith, below_more, true-eqb, false-eqb}
 use Rattle.docks.specs.Answers.{totals}
 use Rattle.docks.specs.Views.{entries}
 use Rattle.docks.proofs.Bests.{length_totals, total_at, no_time, first_found, not_missed}

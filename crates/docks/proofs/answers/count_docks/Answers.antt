@@ -1,4 +1,4 @@
-use Rattle.std.proofs.Common.{◌≡◌, sym, ap, ◌∙◌, arith}
+use Rattle.std.proofs.Common.{◌≡◌, ap, ◌∙◌, arith}
 use Rattle.semiring.specs.Kinds.{counts}
 use Rattle.docks.specs.Answers.{over_docks, counts_once}
 use Rattle.docks.specs.Views.{entries}

@@ -1,4 +1,4 @@
-use Rattle.std.proofs.Common.{◌≡◌, map, length, set, ap, ◌∙◌, arith}
+use Rattle.std.proofs.Common.{map, set, ap, ◌∙◌, arith}
 use Rattle.semiring.proofs.Steps.{over_more, over_all}
 use Rattle.docks.specs.Answers.{row, leg_at}
 use Rattle.docks.specs.Tables.{Entry}

@@ -1,7 +1,7 @@
 use Rattle.std.proofs.Common.{◌+◌, ◌-◌, ◌/◌, sym, arith}
 use Rattle.model.specs.Fibers.{fiber}
 use Rattle.formats.specs.Sizes.{size_of}
-use Rattle.levels.proofs.Asks.{counted, told, untold}
+use Rattle.levels.proofs.Asks.{counted, untold}
 use Rattle.levels.proofs.Halves.{left_all, left_none, read_at, read_hit, left_above, left_below}
 use Rattle.levels.proofs.search.find.Goals as goal
 

@@ -11,9 +11,9 @@ bounds-self-self c = omega (arith, length_entries c.args.self.now)
 
 pub invariant_of-self : goal.invariant_of-self
 invariant_of-self c = record {
-    room = length-set c.args.self.now.docks _ _ ∙ c.args.self.now.room;
-    fits = omega (arith, length_entries c.args.self.now);
-  }
+  room = length-set c.args.self.now.docks _ _ ∙ c.args.self.now.room;
+  fits = omega (arith, length_entries c.args.self.now);
+}
 
 pub returns : goal.returns
 returns c = pushed c.args.self.now.docks c.args.self.now.count c.args.dock (omega (arith, length_entries c.args.self.now, c.args.self.now.room))

@@ -1,4 +1,4 @@
-use Rattle.std.proofs.Common.{◌≡◌, ℕ, ◌+◌, ◌-◌, ◌<◌, ◌≤◌, get_or, Some, Option, ap, ◌∙◌, arith}
+use Rattle.std.proofs.Common.{◌≡◌, ℕ, ◌+◌, ◌-◌, ◌<◌, ◌≤◌, get_or, Some, ap, ◌∙◌, arith}
 use Rattle.model.specs.Formats.{position, coordinate_word}
 use Rattle.formats.specs.Sizes.{size_of}
 use Rattle.formats.specs.Rows.{rows_at, rows_at_past, rows_at_none}
