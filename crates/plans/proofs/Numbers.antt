@@ -1,13 +1,13 @@
 -- How many fronts rising rows have: counted row by row, bounded by the extents, and as many as rows at full depth.
-use Rattle.std.proofs.Common.{◌≡◌, ℕ, zero, suc, ◌+◌, ◌*◌, ◌<◌, ◌≤◌, Bool, true, false, cond, eqb, ltb, leb, ◌⊎◌, List, [], ◌∷◌, length, get_or, take, drop, sym, refl, ap, ◌∙◌, subst, ap₂, inl, inr, ⊎_elim, true≢false, mul-le-mul_right, add-mul, arith}
+use Rattle.std.proofs.Common.{◌≡◌, ℕ, zero, suc, ◌+◌, ◌*◌, ◌<◌, ◌≤◌, Bool, true, false, cond, eqb, ltb, leb, ◌⊎◌, List, [], ◌∷◌, length, get_or, take, drop, sym, refl, ap, ◌∙◌, subst, ap₂, inl, inr, ⊎_elim, true≢false, add-mul, arith}
 use mathlib.Core.Bool.{false≢true}
 use Rattle.std.specs.List.{AllByRecursion as All}
 use Rattle.std.proofs.ByRecursion.{All-weaker}
 use Rattle.std.proofs.lemmas.List.{take_all, take-take, drop_all}
-use Rattle.std.proofs.lemmas.Bool.{eqb-true, eqb-false, ltb-true, or_parts, leb-false, cases_Bool, cond-true, cond-false}
+use Rattle.std.proofs.lemmas.Bool.{eqb-true, ltb-true, or_parts, leb-false}
 use Rattle.model.specs.Tensors.{same}
 use Rattle.model.specs.Running.{before}
-use Rattle.model.specs.Stores.{outside, fronts, some_pass}
+use Rattle.model.specs.Stores.{outside, fronts}
 use Rattle.model.proofs.Assignments.{same_is, same_self}
 use Rattle.plans.specs.Rows.{Rising, Ordered, rows_of, nth_row, next_same}
 use Rattle.plans.proofs.Orders.{seen_next, before_differs}

@@ -1,12 +1,12 @@
 -- The order of rows and of their fronts.
-use Rattle.std.proofs.Common.{◌≡◌, ℕ, zero, suc, ◌+◌, ◌<◌, Bool, true, false, cond, not, ◌||◌, eqb, ltb, leb, ◌⊎◌, List, [], ◌∷◌, length, get_or, take, sym, refl, ap, ◌∙◌, subst, ap₂, inl, inr, ⊎_elim, true≢false, arith}
+use Rattle.std.proofs.Common.{◌≡◌, ℕ, zero, suc, Bool, true, false, cond, ◌||◌, eqb, ltb, ◌⊎◌, List, [], ◌∷◌, take, sym, refl, ap, ◌∙◌, subst, ap₂, inl, inr, ⊎_elim}
 use mathlib.Core.Bool.{false≢true}
 use Rattle.std.specs.List.{AllByRecursion as All}
 use Rattle.std.proofs.ByRecursion.{All-weaker}
-use Rattle.std.proofs.lemmas.Bool.{eq-eqb, eqb-true, eqb-false, ltb-true, ltb-false, lt-ltb, or_parts, leb-false, cases_Bool, or_left}
+use Rattle.std.proofs.lemmas.Bool.{eqb-true, cases_Bool, or_left}
 use Rattle.model.specs.Tensors.{same}
 use Rattle.model.specs.Running.{before}
-use Rattle.model.specs.Stores.{some_pass, outside}
+use Rattle.model.specs.Stores.{some_pass}
 use Rattle.model.proofs.Assignments.{same_is, same_self}
 use Rattle.model.proofs.Tables.{before_self, before_trans}
 use Rattle.plans.specs.Rows.{Rising, next_same}

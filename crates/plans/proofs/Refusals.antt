@@ -1,5 +1,5 @@
 -- What refuses a STORE, row by row, and what an accepted one keeps.
-use Rattle.std.proofs.Common.{◌≡◌, ℕ, suc, ◌+◌, ◌*◌, ◌<◌, ◌≤◌, Bool, true, false, cond, not, ◌||◌, eqb, ltb, List, [], ◌∷◌, map, length, get_or, Some, None, Ok, sum, Option, sym, refl, ap, ◌∙◌, subst, ap₂, zero-add, arith}
+use Rattle.std.proofs.Common.{◌≡◌, ℕ, ◌+◌, ◌*◌, ◌<◌, ◌≤◌, Bool, true, false, cond, not, ◌||◌, eqb, ltb, List, map, length, get_or, Some, None, Ok, sum, Option, sym, refl, ap, ◌∙◌, subst, zero-add, arith}
 use Rattle.std.proofs.lemmas.Bool.{lt-ltb, le-ltb, ltb-false, eqb-true, or_parts, not-false}
 use Rattle.model.specs.Calls.{Request, Fault, no_slot, shape, entry, room}
 use Rattle.model.specs.Formats.{LevelSize}

@@ -1,5 +1,5 @@
 -- The answers of the code as those of the book. Assumes nothing.
-use Rattle.std.specs.Prelude.{ℕ, List, take, Ok, Err, Option, Result}
+use Rattle.std.specs.Prelude.{take, Ok, Err, Option, Result}
 use Rattle.std.specs.Option.{option_map}
 use Rattle.model.specs.Blocks.{Key}
 use Rattle.model.specs.Calls.{Answer, listed, refused}

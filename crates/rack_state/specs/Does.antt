@@ -1,5 +1,5 @@
 -- What each call does: what it answers, for every input, and what every area then holds. Assumes nothing.
-use Rattle.std.specs.Prelude.{◌≡◌, ℕ, ◌+◌, ◌*◌, ◌≤◌, List, ◌++◌, length, take, drop}
+use Rattle.std.specs.Prelude.{◌≡◌, ℕ, ◌+◌, ◌*◌, List, take, drop}
 use Rattle.model.specs.Semirings.{Algebra}
 use Rattle.model.specs.Fibers.{Level}
 use Rattle.model.specs.Formats.{LevelSize}

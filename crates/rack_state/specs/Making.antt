@@ -1,5 +1,5 @@
 -- When a rack is made, what it is then, and what becomes of its areas. Assumes nothing.
-use Rattle.std.specs.Prelude.{◌≡◌, true, false, List, replicate, None, Ok, Err, vec_items, Result}
+use Rattle.std.specs.Prelude.{◌≡◌, true, false, replicate, None, Ok, Err, vec_items, Result}
 use Rattle.model.specs.Stores.{wrong_sizes}
 use Rattle.semiring.specs.declared.Semiring.{Ghosts}
 use Rattle.slots.specs.Areas.{slot_state}

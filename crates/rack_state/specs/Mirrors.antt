@@ -1,11 +1,10 @@
 -- What it is for a rack to mirror a book: its slots hold the book's tensors, its graph is that of the book's line, and its areas hold what the commands
 -- carried out have made. Assumes nothing.
-use Rattle.std.specs.Prelude.{◌≡◌, ℕ, ◌<◌, ◌≤◌, false, List, ◌++◌, map, length, take, Some, None, Option, slice_index_or}
-use Rattle.std.specs.List.{flat_map, AllByRecursion as All}
+use Rattle.std.specs.Prelude.{◌≡◌, ℕ, ◌≤◌, false, List, ◌++◌, map, length, take, Some, None, Option, slice_index_or}
+use Rattle.std.specs.List.{flat_map}
 use Rattle.model.specs.Semirings.{Algebra}
 use Rattle.model.specs.Fibers.{Level}
 use Rattle.model.specs.Formats.{LevelSize}
-use Rattle.model.specs.Tensors.{Holds}
 use Rattle.model.specs.Commands.{bytes_of}
 use Rattle.model.specs.Lowering.{bytes_of_line}
 use Rattle.model.specs.Reading.{line_of}
@@ -16,7 +15,7 @@ use Rattle.model.specs.Payloads.{LevelsBelow}
 use Rattle.model.specs.Stores.{FormatRules}
 use Rattle.model.specs.Books.{Slot, Loaded, Book, storage_of, tensors_of, commands_of, is_drained, state_of}
 use Rattle.model.specs.Promises.{SlotsHold}
-use Rattle.slots.specs.Layouts.{part, levels_on, storage}
+use Rattle.slots.specs.Layouts.{part, storage}
 use Rattle.slots.specs.Records.{sizes, extents}
 use Rattle.slots.specs.declared.records.TensorRecord.{TensorRecord}
 use Rattle.results.specs.declared.key.ResultKey.{ResultKey}

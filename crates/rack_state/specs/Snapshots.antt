@@ -1,8 +1,8 @@
 -- All that a rack is at one time: its sizes, its slots, its graph, and what every area holds. Assumes nothing.
-use Rattle.std.specs.Prelude.{ℕ, List, length, None, vec_items, vec_len, Option}
+use Rattle.std.specs.Prelude.{ℕ, List, vec_items, vec_len, Option}
 use Rattle.model.specs.Stores as model
 use Rattle.semiring.specs.declared.Semiring.{Ghosts}
-use Rattle.slots.specs.Areas.{SlotState, slot_state, state_of}
+use Rattle.slots.specs.Areas.{SlotState, state_of}
 use Rattle.streams.specs.declared.record.Tapes.{Tapes}
 use Rattle.results.specs.declared.key.ResultKey.{ResultKey}
 use Rattle.rack_state.specs.declared.areas.Areas.{Areas}

@@ -1,11 +1,10 @@
 -- One more level in the words behind those before it, and the entries' children there.
-use Rattle.std.proofs.Common.{◌≡◌, ℕ, zero, suc, ◌+◌, ◌-◌, ◌<◌, ◌≤◌, List, [], ◌∷◌, ◌++◌, map, length, get_or, take, drop, Some, sym, refl, ap, ◌∙◌, subst, ap₂, ⊎_elim, arith}
+use Rattle.std.proofs.Common.{◌≡◌, ℕ, ◌+◌, ◌-◌, ◌<◌, ◌≤◌, List, [], ◌++◌, map, length, get_or, take, drop, Some, sym, refl, ap, ◌∙◌, subst, ⊎_elim, arith}
 use borrow.Rule.Slice.PartMut.{put_mid}
 use Rattle.std.proofs.lemmas.List.{length-map, get_or-map, get_or_past, drop_all, append-nil}
 use Rattle.std.proofs.lemmas.Bool.{cases_lt}
 use Rattle.model.specs.Fibers.{Level, Lawful, Ascends, coords, fiber, child, coord}
 use Rattle.model.specs.Formats.{LevelSize, Listed, Includes}
-use Rattle.formats.specs.Builds.{Built}
 use Rattle.levels.proofs.Halves.{child_hit}
 use Rattle.tensors.specs.Fillings.{picked, Owners}
 use Rattle.tensors.proofs.Middles.{mid_front, mid_rest, mid_back}

@@ -1,5 +1,5 @@
 -- What a list holds after a write to its k places from a on.
-use Rattle.std.proofs.Common.{◌≡◌, ℕ, ◌+◌, ◌<◌, ◌≤◌, List, ◌++◌, length, take, drop, sym, refl, ap, ◌∙◌, subst, ap₂, arith}
+use Rattle.std.proofs.Common.{◌≡◌, ℕ, ◌+◌, ◌≤◌, List, ◌++◌, length, take, drop, sym, ap, ◌∙◌, ap₂, arith}
 use borrow.Rule.Slice.PartMut.{put_mid, post_of}
 use Rattle.std.proofs.lemmas.List.{length-drop, length-take-le, drop_at, drop-drop, take-append-le, drop-append-le, take-append-drop}
 use Rattle.std.proofs.lemmas.Slice.{take-put_mid_below}

@@ -1,11 +1,11 @@
 -- Levels built one below the other: what stands after i of them.
-use Rattle.std.proofs.Common.{◌≡◌, ℕ, zero, suc, ◌+◌, ◌<◌, ◌≤◌, false, List, [], ◌∷◌, ◌++◌, map, length, get_or, take, drop, Some, None, sum, sym, refl, ap, ◌∙◌, subst, ap₂, arith}
+use Rattle.std.proofs.Common.{◌≡◌, ℕ, suc, ◌+◌, ◌<◌, ◌≤◌, false, List, [], ◌∷◌, ◌++◌, map, length, get_or, take, drop, Some, sum, sym, refl, ap, ◌∙◌, subst, ap₂, arith}
 use Rattle.std.proofs.ByRecursion.{All-get_or}
 use Rattle.std.proofs.lemmas.List.{take_more, take_all, drop_more, drop_all, drop-drop, length-take-le, length-map, get_or-map, get_or-take, take-map}
 use Rattle.std.proofs.lemmas.List.Sums.{sum_by-take-le}
 use Rattle.slots.specs.Records.{level_of}
 use Rattle.slots.specs.declared.records.LevelRecord.{LevelRecord}
-use Rattle.model.specs.Fibers.{Level, Lawful, fiber, fiber_at, child}
+use Rattle.model.specs.Fibers.{Level, Lawful, fiber_at, child}
 use Rattle.model.specs.Formats.{LevelSize}
 use Rattle.model.specs.Tensors.{Stacked, reached}
 use Rattle.model.specs.Stores.{FormatRules, level_sizes, positions_from, outside, fronts}

@@ -1,7 +1,7 @@
 -- Stacked levels: what references they reach, and that coordinates and references determine each other.
-use Rattle.std.proofs.Common.{◌≡◌, ℕ, zero, suc, ◌+◌, ◌<◌, ◌≤◌, Bool, true, false, cond, eqb, List, [], ◌∷◌, ◌++◌, length, get_or, Some, None, Option, sym, refl, ap, ◌∙◌, subst, ap₂, arith}
+use Rattle.std.proofs.Common.{◌≡◌, ℕ, suc, ◌<◌, Bool, true, false, cond, eqb, List, [], ◌∷◌, ◌++◌, length, get_or, Some, None, Option, sym, refl, ap, ◌∙◌, subst, ap₂, arith}
 use Rattle.std.proofs.lemmas.Bool.{eqb-true}
-use Rattle.model.specs.Fibers.{Level, Fiber, Lawful, fiber, fiber_at, child, coord, child_number}
+use Rattle.model.specs.Fibers.{Level, Fiber, Lawful, fiber, fiber_at, child, coord}
 use Rattle.model.specs.Tensors.{Stacked, reached}
 
 pub stacked_long : (es : List ℕ) (f : ℕ) (ls : List Level) (n : ℕ) → Stacked es f ls n → length ls ≡ length es

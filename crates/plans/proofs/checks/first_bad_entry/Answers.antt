@@ -1,4 +1,4 @@
-use Rattle.std.proofs.Common.{◌≡◌, ◌+◌, cond, length, Some, sym, ap, ◌∙◌, arith}
+use Rattle.std.proofs.Common.{◌+◌, cond, length, Some, sym, ap, ◌∙◌, arith}
 use Rattle.plans.proofs.Entries.{row_fits, faults_from, faults_more, faults_all}
 use Rattle.plans.proofs.checks.first_bad_entry.Goals as goal
 

@@ -1,4 +1,4 @@
-use Rattle.std.proofs.Common.{◌*◌, map, length, sym, ap, ◌∙◌, subst, arith}
+use Rattle.std.proofs.Common.{◌*◌, map, length, sym, ap, ◌∙◌, arith}
 use Rattle.std.proofs.lemmas.List.{length-map}
 use Rattle.plans.specs.Rooms.{rules_of}
 use Rattle.plans.specs.Requests.{slot_sizes}

@@ -3,7 +3,6 @@ use borrow.Rule.Slice.PartMut.{put_mid}
 use Rattle.std.proofs.lemmas.List.{length-drop, take_rest}
 use Rattle.std.proofs.ByRecursion.{All-get_or}
 use Rattle.model.specs.Fibers.{Ascends, coords, fiber, child}
-use Rattle.model.specs.Formats.{Listed}
 use Rattle.model.specs.Stores.{outside}
 use Rattle.formats.specs.Sizes.{size_of}
 use Rattle.plans.specs.Rows.{rows_of, nth_row}

@@ -1,4 +1,4 @@
-use Rattle.std.proofs.Common.{◌≡◌, ℕ, suc, ◌+◌, ◌*◌, ◌≤◌, length, get_or, take, drop, sym, refl, ap, ◌∙◌, subst, arith}
+use Rattle.std.proofs.Common.{◌≡◌, suc, ◌+◌, ◌*◌, length, get_or, sym, ap, ◌∙◌, subst, arith}
 use Rattle.model.specs.Stores.{fronts}
 use Rattle.formats.specs.Sizes.{size_of}
 use Rattle.slots.specs.Records.{sizes}

@@ -1,4 +1,4 @@
-use Rattle.std.proofs.Common.{◌≡◌, map, length, take, sym, ap, ◌∙◌, ⊎_elim, arith}
+use Rattle.std.proofs.Common.{map, take, sym, ap, ◌∙◌, ⊎_elim, arith}
 use Rattle.std.proofs.lemmas.List.{length-map, length-take, get_or_past, get_or-map, get_or-take}
 use Rattle.model.specs.Tensors.{value_at}
 use Rattle.tensors.proofs.reading.value_at.Goals as goal

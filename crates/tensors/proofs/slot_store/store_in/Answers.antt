@@ -1,10 +1,8 @@
-use Rattle.std.proofs.Common.{◌≡◌, ℕ, ◌*◌, ◌≤◌, List, map, length, sym, refl, ap, ◌∙◌, subst, arith}
+use Rattle.std.proofs.Common.{◌≡◌, ◌*◌, map, length, sym, refl, ap, ◌∙◌, subst, arith}
 use Rattle.std.proofs.lemmas.List.{length-map}
-use Rattle.model.specs.Formats.{LevelSize}
 use Rattle.model.specs.Stores.{level_sizes, positions_from, sizes_of, entries_of, tensor_of}
 use Rattle.model.specs.Tensors.{Tensor}
 use Rattle.slots.specs.Layouts.{needed}
-use Rattle.slots.specs.Records.{sizes}
 use Rattle.plans.specs.Requests.{request, slot_sizes}
 use Rattle.plans.specs.Rooms.{rules_of}
 use Rattle.plans.specs.Rows.{rows_of, Ordered}

@@ -1,4 +1,4 @@
-use Rattle.std.proofs.Common.{◌+◌, ◌*◌, refl, mul-le-mul_right, add-mul, arith}
+use Rattle.std.proofs.Common.{◌+◌, refl, mul-le-mul_right, add-mul, arith}
 use Rattle.tensors.proofs.storing.start_of.Goals as goal
 
 pub returns : goal.returns

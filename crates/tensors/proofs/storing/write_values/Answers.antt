@@ -1,7 +1,6 @@
-use Rattle.std.proofs.Common.{◌≡◌, ℕ, ◌+◌, ◌-◌, ◌*◌, ◌≤◌, map, length, take, drop, replicate, sym, ap, ◌∙◌, subst, ap₂, arith}
+use Rattle.std.proofs.Common.{◌≡◌, ◌+◌, ◌-◌, ◌*◌, ◌≤◌, map, length, take, drop, replicate, sym, ap, ◌∙◌, subst, arith}
 use borrow.Rule.Slice.PartMut.{put_mid}
 use Rattle.std.proofs.lemmas.List.{take_all, take-take, drop_all, length-take-le, length-drop}
-use Rattle.slots.specs.Layouts.{part}
 use Rattle.tensors.specs.Fillings.{scattered}
 use Rattle.tensors.proofs.Middles.{mid_front, mid_part, mid_back}
 use Rattle.tensors.proofs.storing.write_values.Goals as goal

@@ -1,4 +1,4 @@
-use Rattle.std.proofs.Common.{◌≡◌, map, length, drop}
+use Rattle.std.proofs.Common.{◌≡◌, map, drop}
 use Rattle.tensors.specs.Fillings.{scattered}
 use Rattle.tensors.proofs.values.fill_values.Given as goal
 
