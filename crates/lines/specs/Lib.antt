@@ -8,5 +8,6 @@ pub mod Limits
 pub mod Evenness
 pub mod Sizes
 pub mod Describes
+pub mod Rooted
 pub mod Faults
 pub mod Judging

@@ -1,4 +1,5 @@
 // The conditions of a line, each by its first place at fault, and the line read as a whole.
+ghost use Rattle.std.specs.Prelude.{IfOk};
 ghost use Rattle.std.specs.Option.{option_map};
 ghost use Rattle.std.specs.Result.{MatchResult};
 ghost use Rattle.model.specs.Conditions.{over_limits, wrong_access, uneven, other_extent, wrong_order, out_of_order, judged, Refuses};
@@ -6,6 +7,7 @@ ghost use Rattle.lines.specs.Given.{slots_of};
 ghost use Rattle.lines.specs.Faults.{fault_of};
 ghost use Rattle.lines.specs.Describes.{Described};
 ghost use Rattle.lines.specs.Judging.{Answers, ReadsLine};
+ghost use Rattle.lines.specs.Rooted.{Rooted};
 
 use crate::evenness::{lacking_term, node_vars, uneven_sum};
 use crate::extents::first_differing;
@@ -102,7 +104,8 @@ fn judge(text: &[u8], slots: &Slots, line: &Syntax) -> Option<LineFault>
 
 // The line that a text is, or the rule that it breaks first and the place.
 pub fn read_line(text: &[u8], slots: &Slots) -> Result<Syntax, LineFault>
-    ensures { MatchResult result (ReadsLine (slots_of slots.now) text.now) (λ f. Refuses (slots_of slots.now) text.now (fault_of f)) }
+    ensures read { MatchResult result (ReadsLine (slots_of slots.now) text.now) (λ f. Refuses (slots_of slots.now) text.now (fault_of f)) }
+    ensures rooted { IfOk result Rooted }
 {
     let parsed = match parse(text) {
         Ok(parsed) => parsed,

@@ -3,6 +3,7 @@ ghost use Rattle.reader.specs.Whole.{Parses, Stands};
 ghost use Rattle.model.specs.Grammar.{Syntax as Line};
 ghost use Rattle.model.specs.Conditions.{Spells};
 ghost use Rattle.lines.specs.Describes.{Describes};
+ghost use Rattle.lines.specs.Rooted.{Rooted};
 
 use crate::accesses::{Access, Accesses, collect};
 use crate::vars::VarList;
@@ -21,7 +22,8 @@ pub struct Syntax {
 
 pub(crate) fn describe(text: &[u8], parsed: &Parsed) -> Syntax
     requires { Parses text.now parsed.now }
-    ensures { (l : Line) → Spells text.now l → Stands parsed.now l → Describes result l }
+    ensures described { (l : Line) → Spells text.now l → Stands parsed.now l → Describes result l }
+    ensures rooted { (l : Line) → Spells text.now l → Stands parsed.now l → Rooted result }
 {
     let empty = Access {
         place: 0,

@@ -11,5 +11,8 @@ collect-requires c =
 pub overflow_sub-result-2 : goal.overflow_sub-result-2
 overflow_sub-result-2 c = let p = c.requires in omega (arith, p.2.order, line_length c.args.text.now p.0 p.1)
 
-pub returns : goal.returns
-returns c = λ l h g. parsed_describes c.args.text.now c.args.parsed.now l h g (search rules) _ _ refl c.collect.ensures
+pub returns-clause-described : goal.returns-clause-described
+returns-clause-described c = λ l h g. parsed_describes c.args.text.now c.args.parsed.now l h g (search rules) _ _ refl c.collect.ensures
+
+pub returns-clause-rooted : goal.returns-clause-rooted
+returns-clause-rooted c = λ l h g. record { made = g.below; few = g.room }
