@@ -1,5 +1,5 @@
 -- What a STORE leaves of a rack: all but one slot, and the graph, which is not under way. Assumes nothing.
-use Rattle.std.proofs.Common.{◌≡◌, ℕ, false, not, eqb, List, Some, None, Option, sym, refl, ap, ◌∙◌, subst, ap₂}
+use Rattle.std.proofs.Common.{◌≡◌, ℕ, false, List, Some, None, Option, sym, ◌∙◌, subst, ap₂}
 use Rattle.std.proofs.lemmas.Bool.{not-false, both_ways}
 use Rattle.model.specs.Semirings.{Algebra}
 use Rattle.model.specs.Fibers.{Level}
@@ -14,7 +14,7 @@ use Rattle.slots.specs.Records.{sizes}
 use Rattle.slots.specs.declared.areas.SlotSizes.{SlotSizes}
 use Rattle.slots.specs.declared.records.TensorRecord.{TensorRecord}
 use Rattle.rack_state.specs.Snapshots.{Snapshot}
-use Rattle.rack_state.specs.Mirrors.{SlotMirrors, GraphMirrors, Carries}
+use Rattle.rack_state.specs.Mirrors.{SlotMirrors, GraphMirrors}
 use Rattle.rack_state.specs.Does.{Does}
 use Rattle.rack_state.specs.declared.state.Loaded.{Loaded}
 use Rattle.rack_state.specs.Busy.{under_way}
