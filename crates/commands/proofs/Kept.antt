@@ -1,6 +1,6 @@
 -- A command of the model, held and read back.
 use Rattle.std.proofs.Common.{◌≡◌, ℕ, zero, suc, ◌≤◌, eqb, List, [], ◌∷◌, ◌++◌, length, take, sym, refl, ap, ◌∙◌, arith}
-use Rattle.std.specs.List.{AllByRecursion as All}
+use Rattle.std.specs.List.{AllByRecursion}
 use Rattle.std.proofs.lemmas.Bool.{ne_eqb, cond-false}
 use Rattle.commands.specs.declared.command.Decoded.{Decoded}
 use Rattle.commands.specs.Bytes.{depth_streams, key_depths, Rereads}
@@ -24,7 +24,7 @@ front_of_fill : (n : ℕ) → nonzero_front (filled n 0 []) ≡ []
 front_of_fill zero = refl
 front_of_fill (suc n) = refl
 
-front_filled : (d n : ℕ) (xs : List ℕ) → length xs ≤ n → All (λ k. (1 ≤ k) × (k ≤ d)) xs → nonzero_front (filled n 0 xs) ≡ xs
+front_filled : (d n : ℕ) (xs : List ℕ) → length xs ≤ n → AllByRecursion (λ k. (1 ≤ k) × (k ≤ d)) xs → nonzero_front (filled n 0 xs) ≡ xs
 front_filled d n [] h a = front_of_fill n
 front_filled d zero (x ∷ xs) h a = absurd (omega arith)
 front_filled d (suc n) (x ∷ xs) h a = cond-false (eqb x 0) [] (x ∷ nonzero_front (filled n 0 xs)) (ne_eqb x 0 (λ e. omega (arith, a.0.0))) ∙ ap (λ ys. x ∷ ys) (front_filled d n xs (omega arith) a.1)

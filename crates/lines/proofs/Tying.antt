@@ -1,7 +1,7 @@
 -- A tree whose text stands at a place of s is tied to s there. Assumes nothing.
 use Rattle.std.proofs.Common.{◌≡◌, ℕ, ◌+◌, ◌-◌, ◌*◌, ◌≤◌, List, [], ◌∷◌, ◌++◌, map, length, get_or, drop, sym, refl, ap, ◌∙◌, subst, arith, length-append, length-drop}
 use Rattle.std.proofs.lemmas.List.{append_assoc, map-append, get_or-drop, drop-drop, drop_at}
-use Rattle.std.specs.List.{AllByRecursion as All}
+use Rattle.std.specs.List.{AllByRecursion}
 use Rattle.std.proofs.ByRecursion.{All-append}
 use Rattle.model.specs.Grammar.{Tree, access, group, times, plus, commas, names, text, Vars, Grammatical}
 use Rattle.model.specs.Reading.{PlacedAccess, accesses_from}
@@ -74,8 +74,8 @@ module _ (s : List ℕ) where
   both_stand xs ys g h =
       ap (map (stood_for s)) (map-append entry xs ys) ∙ map-append (stood_for s) (map entry xs) (map entry ys) ∙ ap (λ l. l ++ map (stood_for s) (map entry ys)) g ∙ ap (λ l. xs ++ l) h
 
-  both_inside : (xs ys : List PlacedAccess) → All (λ e. Inside s e.vars) (map entry xs) → All (λ e. Inside s e.vars) (map entry ys) → All (λ e. Inside s e.vars) (map entry (xs ++ ys))
-  both_inside xs ys g h = subst (All (λ e. Inside s e.vars)) (sym (map-append entry xs ys)) (All-append (λ e. Inside s e.vars) (map entry xs) (map entry ys) g h)
+  both_inside : (xs ys : List PlacedAccess) → AllByRecursion (λ e. Inside s e.vars) (map entry xs) → AllByRecursion (λ e. Inside s e.vars) (map entry ys) → AllByRecursion (λ e. Inside s e.vars) (map entry (xs ++ ys))
+  both_inside xs ys g h = subst (AllByRecursion (λ e. Inside s e.vars)) (sym (map-append entry xs ys)) (All-append (λ e. Inside s e.vars) (map entry xs) (map entry ys) g h)
 
   -- the entries of a tied tree stand for its accesses
   pub entries_stand : (t : Tree) (at : ℕ) → Tied s at t → map (stood_for s) (map entry (accesses_from at t)) ≡ accesses_from at t
@@ -85,7 +85,7 @@ module _ (s : List ℕ) where
   entries_stand (plus a b) at h = both_stand (accesses_from at a) (accesses_from (at + length (text a) + 1) b) (entries_stand a at h.0) (entries_stand b (at + length (text a) + 1) h.1)
 
   -- their variables are inside the text
-  pub entries_inside : (t : Tree) (at : ℕ) → Tied s at t → All (λ e. Inside s e.vars) (map entry (accesses_from at t))
+  pub entries_inside : (t : Tree) (at : ℕ) → Tied s at t → AllByRecursion (λ e. Inside s e.vars) (map entry (accesses_from at t))
   entries_inside (access l vs) at h = (h.1, tt)
   entries_inside (group t) at h = entries_inside t (at + 1) h
   entries_inside (times a b) at h = both_inside (accesses_from at a) (accesses_from (at + length (text a) + 1) b) (entries_inside a at h.0) (entries_inside b (at + length (text a) + 1) h.1)

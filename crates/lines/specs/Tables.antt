@@ -6,7 +6,7 @@ use Rattle.model.specs.Reading.{PlacedAccess, accesses_from}
 use Rattle.reader.specs.Nodes.{Holds}
 use Rattle.lines.specs.declared.accesses.Access.{Access}
 use Rattle.lines.specs.declared.accesses.Accesses.{Accesses}
-use Rattle.std.specs.List.{AllByRecursion as All}
+use Rattle.std.specs.List.{AllByRecursion}
 use Rattle.lines.specs.Lists.{vars_of, Inside}
 
 abbrev pub entries : Accesses → List Access
@@ -39,7 +39,7 @@ Collected ns i old new = (t : Tree) (at : ℕ) → Holds t at ns i → Added old
 
 -- the variables of each entry are inside the text
 abbrev pub AllInside : List ℕ → List Access → Type 0
-AllInside s es = All (λ e. Inside s e.vars) es
+AllInside s es = AllByRecursion (λ e. Inside s e.vars) es
 
 abbrev pub NoNeed : ℕ → Tree → Type 0
 NoNeed at t = Unit {0}

@@ -1,6 +1,6 @@
 // The limits of a line, each by the first item that is too much.
 ghost use Rattle.std.specs.Prelude.{◌≡◌, ◌≤◌, not, ◌&&◌, [], ◌∷◌, map};
-ghost use Rattle.std.specs.List.{AllByRecursion as All};
+ghost use Rattle.std.specs.List.{AllByRecursion};
 ghost use Rattle.model.specs.Grammar.{is_var};
 ghost use Rattle.model.specs.Conditions.{first_fault, beyond, places, firsts, leftmost};
 ghost use Rattle.lines.specs.Sets.{in_set};
@@ -59,7 +59,7 @@ pub(crate) fn fifth_variable(text: &[u8]) -> Option<usize>
 // The fourth variable in the first pair of argument brackets that has so many.
 pub(crate) fn fourth_argument(left: VarList, accesses: &[Access]) -> Option<usize>
     requires left { left.place ≤ 257 }
-    requires table { All (λ e. e.vars.place ≤ 257) accesses.now }
+    requires table { AllByRecursion (λ e. e.vars.place ≤ 257) accesses.now }
     ensures { result ≡ first_fault (crowded left ∷ map (λ e. crowded e.vars) accesses.now) }
 {
     if left.count > 3 {

@@ -2,7 +2,7 @@
 use Rattle.std.proofs.Common.{◌≡◌, ℕ, zero, suc, ◌+◌, ◌<◌, ◌≤◌, Bool, true, false, cond, not, ◌||◌, eqb, ◌⊎◌, List, [], ◌∷◌, ◌++◌, map, length, get_or, IfSome, Some, None, Option, sym, refl, ap, ◌∙◌, subst, inl, inr, add-one, arith}
 use mathlib.Core.Bool.{false≢true}
 use Rattle.std.specs.Option.{option_map}
-use Rattle.std.specs.List.{AllByRecursion as All}
+use Rattle.std.specs.List.{AllByRecursion}
 use Rattle.std.proofs.lemmas.List.{get_or_past}
 use Rattle.std.proofs.ByRecursion.{All-map, All-from_get_or}
 use Rattle.std.proofs.lemmas.Bool.{eqb-true, not-false, or_parts, cases_lt}
@@ -46,7 +46,7 @@ place_below (x ∷ vs) v h = go (eqb x v) h (place_below vs v)
 
 -- where every argument has the extent of its variable, so has the argument at a variable's place
 extent_at :
-    (size : ℕ → ℕ) (p : ℕ) (vs es : List ℕ) → All (λ s. Pass (s.place, not (eqb s.extent (size s.var)))) (sized_vars (placed_vars p vs) es) → length es ≡ length vs
+    (size : ℕ → ℕ) (p : ℕ) (vs es : List ℕ) → AllByRecursion (λ s. Pass (s.place, not (eqb s.extent (size s.var)))) (sized_vars (placed_vars p vs) es) → length es ≡ length vs
     → (v : ℕ) → has vs v ≡ true → get_or es (place vs v) 0 ≡ size v
 extent_at size p [] es h q v k = absurd (false≢true k)
 extent_at size p (x ∷ vs) [] h q v k = absurd (omega arith)
@@ -114,7 +114,7 @@ module _ (slots : Slots) (l : Syntax) (rules : Clean slots l) where
   order_has v h = all_in_has (tree_vars l.body) l.order v (not-false _ (all_back Pass (order_checks (tree_vars l.body) [] (order_vars l)) _ order_passes).0) h
 
   one_sound :
-      (c : PlacedAccess) → Pass (fills c) → All (λ s. Pass (measures s)) (arguments c) × Pass (nests c)
+      (c : PlacedAccess) → Pass (fills c) → AllByRecursion (λ s. Pass (measures s)) (arguments c) × Pass (nests c)
       → ((v : ℕ) → has c.of.vars v ≡ true → has l.order v ≡ true) → Sound slots l c.of
   one_sound c fit rest looped =
       let filled = not-false (fits_slot (slots c.of.slot) c.of.vars) (or_parts _ (repeats c.of.vars) fit).0 in
@@ -128,18 +128,18 @@ module _ (slots : Slots) (l : Syntax) (rules : Clean slots l) where
       }
 
   -- each access is sound
-  pub sound : All (Sound slots l) (accesses l.body)
+  pub sound : AllByRecursion (Sound slots l) (accesses l.body)
   sound =
       let measured = all_joined (λ s. Pass (measures s)) arguments (placed_accesses l) (all_mapped Pass measures (sized slots l) (every_passes (map measures (sized slots l)) rules.sized_alike)) in
       let nested = all_mapped Pass nests (placed_accesses l) (every_passes (map nests (placed_accesses l)) rules.nested) in
-      let both = all_both (λ c. All (λ s. Pass (measures s)) (arguments c)) (λ c. Pass (nests c)) (λ c. All (λ s. Pass (measures s)) (arguments c) × Pass (nests c)) (λ c h k. (h, k)) (placed_accesses l) measured nested in
+      let both = all_both (λ c. AllByRecursion (λ s. Pass (measures s)) (arguments c)) (λ c. Pass (nests c)) (λ c. AllByRecursion (λ s. Pass (measures s)) (arguments c) × Pass (nests c)) (λ c h k. (h, k)) (placed_accesses l) measured nested in
       all_both (λ a. (v : ℕ) → has a.vars v ≡ true → has l.order v ≡ true) (λ a. ((v : ℕ) → has a.vars v ≡ true → has l.order v ≡ true) → Sound slots l a) (Sound slots l)
       (λ a looped f. f looped) (accesses l.body)
       (All-from_get_or (λ a. (v : ℕ) → has a.vars v ≡ true → has l.order v ≡ true) (accesses l.body) no_access (λ i below v h. order_has v (nth_has (accesses l.body) i v h)))
       (
       all_placed (λ a. ((v : ℕ) → has a.vars v ≡ true → has l.order v ≡ true) → Sound slots l a) (body_place l) l.body
       (
-      all_both (λ c. Pass (fills c)) (λ c. All (λ s. Pass (measures s)) (arguments c) × Pass (nests c)) (λ c. ((v : ℕ) → has c.of.vars v ≡ true → has l.order v ≡ true) → Sound slots l c.of)
+      all_both (λ c. Pass (fills c)) (λ c. AllByRecursion (λ s. Pass (measures s)) (arguments c) × Pass (nests c)) (λ c. ((v : ℕ) → has c.of.vars v ≡ true → has l.order v ≡ true) → Sound slots l c.of)
       one_sound (placed_accesses l) (all_mapped Pass fills (placed_accesses l) access_passes.1) both
       )
       )
@@ -152,7 +152,7 @@ pub record Whole (left : List ℕ) (u : Placed) : Type 0 where
 abbrev complete : Syntax → Placed → Check
 complete l u = (u.place, not (all_in l.left (tree_vars u.tree)))
 
-pub whole : (slots : Slots) (l : Syntax) → Clean slots l → Grammatical l.body → All (Whole l.left) (terms_from (body_place l) l.body)
+pub whole : (slots : Slots) (l : Syntax) → Clean slots l → Grammatical l.body → AllByRecursion (Whole l.left) (terms_from (body_place l) l.body)
 whole slots l rules formed =
     let parts = neither (first_fault (additions (body_place l) false l.body)) (first_fault (map (complete l) (terms_from (body_place l) l.body))) rules.even in
     all_both (λ u. Passes (additions u.place true u.tree)) (λ u. Pass (complete l u)) (Whole l.left) (λ u h k. record { passes = h; lefts = not-false _ k })
@@ -184,7 +184,7 @@ module _ {V : Type 0} (K : Algebra V) (ts : Tensors V) (T : ℕ → Storage V) (
       let both = fit_slot a (ts a.slot) (hold a.slot) s.filled s.sizes in
       record { ordered = s.inner; fits = both.0; holds = both.1 }
 
-  fit_term : (u : Placed) → All (Sound (extents_seen ts) l) (accesses u.tree) → Whole l.left u → FitTerm K T size (dense_values K.zero ts) l.left l.order (term_of u)
+  fit_term : (u : Placed) → AllByRecursion (Sound (extents_seen ts) l) (accesses u.tree) → Whole l.left u → FitTerm K T size (dense_values K.zero ts) l.left l.order (term_of u)
   fit_term u sounds w =
       let acs = accesses u.tree in
       let is = λ (v : ℕ). occurs_tree acs v u.tree 0 (from_start acs) in
@@ -207,7 +207,7 @@ module _ {V : Type 0} (K : Algebra V) (ts : Tensors V) (T : ℕ → Storage V) (
         each =
             All-map (FitTerm K T size (dense_values K.zero ts) l.left l.order) term_of us
             (
-            all_both (λ u. All (Sound (extents_seen ts) l) (accesses u.tree)) (Whole l.left) (λ u. FitTerm K T size (dense_values K.zero ts) l.left l.order (term_of u)) fit_term us
+            all_both (λ u. AllByRecursion (Sound (extents_seen ts) l) (accesses u.tree)) (Whole l.left) (λ u. FitTerm K T size (dense_values K.zero ts) l.left l.order (term_of u)) fit_term us
             (all_terms (Sound (extents_seen ts) l) (body_place l) l.body (sound (extents_seen ts) l rules))
             (whole (extents_seen ts) l rules accepts.0.formed.body)
             );

@@ -2,7 +2,7 @@
 use Rattle.std.proofs.Common.{◌≡◌, ℕ, Bool, true, false, not, ◌||◌, eqb, List, [], ◌∷◌, ◌++◌, map, length, sym, refl, ap, ◌∙◌, subst, ap₂}
 use mathlib.Core.Path.{fun_ext}
 use mathlib.Core.Bool.{false≢true}
-use Rattle.std.specs.List.{flat_map, AllByRecursion as All}
+use Rattle.std.specs.List.{flat_map, AllByRecursion}
 use Rattle.std.proofs.lemmas.Bool.{eq-eqb}
 use Rattle.std.proofs.ByRecursion.{All-append, All-get_or, All-weaker}
 use Rattle.model.specs.Semirings.{Algebra, total}
@@ -19,47 +19,47 @@ use Rattle.model.proofs.TermMeaning.{reduced_has, map_all}
 use Rattle.model.proofs.Counting.{Rearranged, alike_rearranged}
 
 -- what holds of a term's accesses holds of the accesses in its bags
-module _ (P : Access → Type 0) (acs : List Access) (all : All P acs) where
+module _ (P : Access → Type 0) (acs : List Access) (all : AllByRecursion P acs) where
   mutual
-    pub bags_all : (e : Expr) → Placed (length acs) e → All (All P) (bags acs e)
+    pub bags_all : (e : Expr) → Placed (length acs) e → AllByRecursion (AllByRecursion P) (bags acs e)
     bags_all (operand i) p = ((All-get_or P acs i no_access p all, tt), tt)
     bags_all (product ps) p = products_all ps p
     bags_all (sum ps) p = sums_all ps p
 
-    products_all : (ps : Parts) → PlacedIn (length acs) ps → All (All P) (bags_product acs ps)
+    products_all : (ps : Parts) → PlacedIn (length acs) ps → AllByRecursion (AllByRecursion P) (bags_product acs ps)
     products_all (last e) p = bags_all e p
-    products_all (more e ps) p = all_products (All P) (All P) (All P) (λ b c h k. All-append P b c h k) (bags acs e) (bags_product acs ps) (bags_all e p.0) (products_all ps p.1)
+    products_all (more e ps) p = all_products (AllByRecursion P) (AllByRecursion P) (AllByRecursion P) (λ b c h k. All-append P b c h k) (bags acs e) (bags_product acs ps) (bags_all e p.0) (products_all ps p.1)
 
-    sums_all : (ps : Parts) → PlacedIn (length acs) ps → All (All P) (bags_sum acs ps)
+    sums_all : (ps : Parts) → PlacedIn (length acs) ps → AllByRecursion (AllByRecursion P) (bags_sum acs ps)
     sums_all (last e) p = bags_all e p
-    sums_all (more e ps) p = All-append (All P) (bags acs e) (bags_sum acs ps) (bags_all e p.0) (sums_all ps p.1)
+    sums_all (more e ps) p = All-append (AllByRecursion P) (bags acs e) (bags_sum acs ps) (bags_all e p.0) (sums_all ps p.1)
 
-all_parts : {A : Type 0} (P : A → Type 0) (xs ys : List A) → All P (xs ++ ys) → All P xs × All P ys
+all_parts : {A : Type 0} (P : A → Type 0) (xs ys : List A) → AllByRecursion P (xs ++ ys) → AllByRecursion P xs × AllByRecursion P ys
 all_parts P [] ys h = (tt, h)
 all_parts P (x ∷ xs) ys h = let r = all_parts P xs ys h.1 in ((h.0, r.0), r.1)
 
 pub line_bags_all :
-    (P : Access → Type 0) (ts : List Term) → All (λ t. Placed (length t.accesses) t.body) ts → All P (flat_map (λ t. t.accesses) ts)
-    → All (All P) (flat_map (λ t. bags t.accesses t.body) ts)
+    (P : Access → Type 0) (ts : List Term) → AllByRecursion (λ t. Placed (length t.accesses) t.body) ts → AllByRecursion P (flat_map (λ t. t.accesses) ts)
+    → AllByRecursion (AllByRecursion P) (flat_map (λ t. bags t.accesses t.body) ts)
 line_bags_all P [] p h = tt
 line_bags_all P (t ∷ ts) p h =
     let r = all_parts P t.accesses (flat_map (λ u. u.accesses) ts) h in
-    All-append (All P) (bags t.accesses t.body) (flat_map (λ u. bags u.accesses u.body) ts) (bags_all P t.accesses r.0 t.body p.0) (line_bags_all P ts p.1 r.1)
+    All-append (AllByRecursion P) (bags t.accesses t.body) (flat_map (λ u. bags u.accesses u.body) ts) (bags_all P t.accesses r.0 t.body p.0) (line_bags_all P ts p.1 r.1)
 
-all_middle : {A : Type 0} (P : A → Type 0) (us : List A) (y : A) (vs : List A) → All P (us ++ y ∷ vs) → P y × All P (us ++ vs)
+all_middle : {A : Type 0} (P : A → Type 0) (us : List A) (y : A) (vs : List A) → AllByRecursion P (us ++ y ∷ vs) → P y × AllByRecursion P (us ++ vs)
 all_middle P [] y vs h = (h.0, h.1)
 all_middle P (u ∷ us) y vs h = let r = all_middle P us y vs h.1 in (r.0, (h.0, r.1))
 
 -- lines that multiply out alike have the same accesses in their bags
-all_rearranged : {A : Type 0} (P : A → Type 0) (R : A → A → Type 0) → ((x y : A) → R x y → P y → P x) → (xs ys : List A) → Rearranged R xs ys → All P ys → All P xs
+all_rearranged : {A : Type 0} (P : A → Type 0) (R : A → A → Type 0) → ((x y : A) → R x y → P y → P x) → (xs ys : List A) → Rearranged R xs ys → AllByRecursion P ys → AllByRecursion P xs
 all_rearranged P R f [] ys r h = tt
 all_rearranged P R f (x ∷ xs) ys r h =
-    let m = all_middle P r.0 r.1 r.2 (subst (All P) r.3 h) in
+    let m = all_middle P r.0 r.1 r.2 (subst (AllByRecursion P) r.3 h) in
     (f x r.1 r.4 m.0, all_rearranged P R f xs (r.0 ++ r.2) r.5 m.1)
 
-pub alike_bags_all : (P : Access → Type 0) (l m : Line) → alike l m ≡ true → All (All P) (multiplied_out m) → All (All P) (multiplied_out l)
+pub alike_bags_all : (P : Access → Type 0) (l m : Line) → alike l m ≡ true → AllByRecursion (AllByRecursion P) (multiplied_out m) → AllByRecursion (AllByRecursion P) (multiplied_out l)
 alike_bags_all P l m same h =
-    all_rearranged (All P) (Rearranged (λ (a b : Access). a ≡ b))
+    all_rearranged (AllByRecursion P) (Rearranged (λ (a b : Access). a ≡ b))
     (λ b c r k. all_rearranged P (λ (x y : Access). x ≡ y) (λ x y e p. subst P (sym e) p) b c r k)
     (multiplied_out l) (multiplied_out m) (alike_rearranged (multiplied_out l) (multiplied_out m) same) h
 
@@ -89,7 +89,7 @@ module _ (acs : List Access) where
     products_some (more e ps) = filled_some (bags acs e) (bags_product acs ps) (bags_some e) (products_some ps)
 
 -- the variables of a bag are those of its accesses
-in_bag_all : (Q : ℕ → Type 0) (b : Bag) → All (λ a. (v : ℕ) → has a.vars v ≡ true → Q v) b → (v : ℕ) → in_bag b v ≡ true → Q v
+in_bag_all : (Q : ℕ → Type 0) (b : Bag) → AllByRecursion (λ a. (v : ℕ) → has a.vars v ≡ true → Q v) b → (v : ℕ) → in_bag b v ≡ true → Q v
 in_bag_all Q [] h v e = absurd (false≢true e)
 in_bag_all Q (a ∷ b) h v e = go (has a.vars v) refl (sym (has_append a.vars (flat_map (λ x. x.vars) b) v) ∙ e) (in_bag_all Q b h.1 v)
   where
@@ -118,53 +118,53 @@ module _ {V : Type 0} (K : Algebra V) (extent other_extent : ℕ → ℕ) (dense
       ap₂ (λ e (g : ℕ → V). total K (map g (below 0 e)))
       (h v (ap (λ b. b || has vs v) (eq-eqb v v refl))) (fun_ext λ c. over_agree vs (λ w e. h w (ap (λ b. eqb v w || b) e ∙ or_true (eqb v w))) (bind v c s) f)
 
-  product_agree : (b : Bag) → All AgreeAt b → (s : Assignment) → product_of K extent dense b s ≡ product_of K other_extent other_dense b s
+  product_agree : (b : Bag) → AllByRecursion AgreeAt b → (s : Assignment) → product_of K extent dense b s ≡ product_of K other_extent other_dense b s
   product_agree [] h s = refl
   product_agree (a ∷ []) h s = h.0.1 (map s a.vars)
   product_agree (a ∷ c ∷ b) h s = ap₂ K.product (h.0.1 (map s a.vars)) (product_agree (c ∷ b) h.1 s)
 
-  extents_in : (b : Bag) → All AgreeAt b → (v : ℕ) → in_bag b v ≡ true → extent v ≡ other_extent v
+  extents_in : (b : Bag) → AllByRecursion AgreeAt b → (v : ℕ) → in_bag b v ≡ true → extent v ≡ other_extent v
   extents_in b h v e = in_bag_all (λ w. extent w ≡ other_extent w) b (turn b h) v e
     where
-      turn : (c : Bag) → All AgreeAt c → All (λ a. (w : ℕ) → has a.vars w ≡ true → extent w ≡ other_extent w) c
+      turn : (c : Bag) → AllByRecursion AgreeAt c → AllByRecursion (λ a. (w : ℕ) → has a.vars w ≡ true → extent w ≡ other_extent w) c
       turn [] k = tt
       turn (a ∷ c) k = (k.0.0, turn c k.1)
 
-  bag_agree : (left : List ℕ) (k : Key) (b : Bag) → All AgreeAt b → bag_sum K extent dense left k b ≡ bag_sum K other_extent other_dense left k b
+  bag_agree : (left : List ℕ) (k : Key) (b : Bag) → AllByRecursion AgreeAt b → bag_sum K extent dense left k b ≡ bag_sum K other_extent other_dense left k b
   bag_agree left k b h =
       over_agree (reduced left b) (λ v e. extents_in b h v (and_parts (in_bag b v) (not (has left v)) (sym (reduced_has left b v) ∙ e)).0) (bind_all left k) (product_of K extent dense b)
       ∙ ap (sum_over K other_extent other_dense (reduced left b) (bind_all left k)) (fun_ext λ s. product_agree b h s)
 
   pub listing_agrees :
-      (l : Line) → ((v : ℕ) → has l.left v ≡ true → extent v ≡ other_extent v) → All (All AgreeAt) (multiplied_out l)
+      (l : Line) → ((v : ℕ) → has l.left v ≡ true → extent v ≡ other_extent v) → AllByRecursion (AllByRecursion AgreeAt) (multiplied_out l)
       → listing K extent dense l ≡ listing K other_extent other_dense l
   listing_agrees l lefts h =
       ap₂ (λ (ks : List Key) (g : Key → V). results K (map (λ k. (k, g k)) ks)) (keys_agree l.left lefts)
-      (fun_ext λ k. ap (total K) (map_all (All AgreeAt) (bag_sum K extent dense l.left k) (bag_sum K other_extent other_dense l.left k) (bag_agree l.left k) (multiplied_out l) h))
+      (fun_ext λ k. ap (total K) (map_all (AllByRecursion AgreeAt) (bag_sum K extent dense l.left k) (bag_sum K other_extent other_dense l.left k) (bag_agree l.left k) (multiplied_out l) h))
 
   -- the left variables of a line that fits are in the bags of its first term
-  first_bag : (v : ℕ) (bs : List Bag) → Filled bs → All (All AgreeAt) bs → All (λ b. in_bag b v ≡ true) bs → extent v ≡ other_extent v
+  first_bag : (v : ℕ) (bs : List Bag) → Filled bs → AllByRecursion (AllByRecursion AgreeAt) bs → AllByRecursion (λ b. in_bag b v ≡ true) bs → extent v ≡ other_extent v
   first_bag v [] full h k = absurd full
   first_bag v (b ∷ bs) full h k = extents_in b h.0 v k.0
 
   lefts_agree :
-      (T : ℕ → Storage V) (left order : List ℕ) (ts : List Term) → Filled ts → All (FitTerm K T extent dense left order) ts
-      → All (All AgreeAt) (flat_map (λ t. bags t.accesses t.body) ts) → (v : ℕ) → has left v ≡ true → extent v ≡ other_extent v
+      (T : ℕ → Storage V) (left order : List ℕ) (ts : List Term) → Filled ts → AllByRecursion (FitTerm K T extent dense left order) ts
+      → AllByRecursion (AllByRecursion AgreeAt) (flat_map (λ t. bags t.accesses t.body) ts) → (v : ℕ) → has left v ≡ true → extent v ≡ other_extent v
   lefts_agree T left order [] full fit h v e = absurd full
   lefts_agree T left order (t ∷ ts) full fit h v e =
       first_bag v (bags t.accesses t.body) (bags_some t.accesses t.body)
-      (all_parts (All AgreeAt) (bags t.accesses t.body) (flat_map (λ u. bags u.accesses u.body) ts) h).0
-      (subst (λ c. All (λ b. in_bag b v ≡ c) (bags t.accesses t.body)) (fit.0.lefts v e) (bags_occur t.accesses v t.body (fit.0.even v)))
+      (all_parts (AllByRecursion AgreeAt) (bags t.accesses t.body) (flat_map (λ u. bags u.accesses u.body) ts) h).0
+      (subst (λ c. AllByRecursion (λ b. in_bag b v ≡ c) (bags t.accesses t.body)) (fit.0.lefts v e) (bags_occur t.accesses v t.body (fit.0.even v)))
 
   -- A line that fits and has a term: its left variables are variables of its accesses.
   pub fit_listing_agrees :
-      (T : ℕ → Storage V) (l : Line) → FitLine K T extent dense l → Filled l.terms → All (All AgreeAt) (multiplied_out l)
+      (T : ℕ → Storage V) (l : Line) → FitLine K T extent dense l → Filled l.terms → AllByRecursion (AllByRecursion AgreeAt) (multiplied_out l)
       → listing K extent dense l ≡ listing K other_extent other_dense l
   fit_listing_agrees T l fit full h = listing_agrees l (lefts_agree T l.left l.order l.terms full fit.each h) h
 
   -- the same, from agreement at the line's accesses
   pub fit_accesses_agree :
-      (T : ℕ → Storage V) (l : Line) → FitLine K T extent dense l → Filled l.terms → All AgreeAt (flat_map (λ t. t.accesses) l.terms)
+      (T : ℕ → Storage V) (l : Line) → FitLine K T extent dense l → Filled l.terms → AllByRecursion AgreeAt (flat_map (λ t. t.accesses) l.terms)
       → listing K extent dense l ≡ listing K other_extent other_dense l
   fit_accesses_agree T l fit full h =
       fit_listing_agrees T l fit full

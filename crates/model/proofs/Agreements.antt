@@ -1,6 +1,6 @@
 -- Lines that multiply out alike have the same accesses; over tensors that agree in the slots they name, the extents of their variables agree, and the dense values. Assumes nothing.
 use Rattle.std.proofs.Common.{◌≡◌, ℕ, ◌+◌, ◌<◌, Bool, true, false, cond, eqb, List, [], ◌∷◌, ◌++◌, get_or, sym, refl, ap, ◌∙◌, subst, ap₂, inl, inr, arith}
-use Rattle.std.specs.List.{AllByRecursion as All}
+use Rattle.std.specs.List.{AllByRecursion}
 use Rattle.std.proofs.ByRecursion.{All-map}
 use Rattle.std.proofs.lemmas.Bool.{eq-eqb, eqb-true, and_parts, and_from}
 use Rattle.model.specs.Tensors.{has, same}
@@ -31,7 +31,7 @@ module _ {A : Type 0} (test : A → A → Bool) where
       go true q h' later = (z, inl refl, q)
       go false q h' later = let (y, k, t) = later (omega arith) in (y, inr k, t)
 
-  passes_each : (p : A → Bool) (xs : List A) → all_pass p xs ≡ true → All (λ x. p x ≡ true) xs
+  passes_each : (p : A → Bool) (xs : List A) → all_pass p xs ≡ true → AllByRecursion (λ x. p x ≡ true) xs
   passes_each p [] h = tt
   passes_each p (x ∷ xs) h = let parts = and_parts (p x) (all_pass p xs) h in (parts.0, passes_each p xs parts.1)
 
@@ -69,42 +69,42 @@ same_bag_in b c h a k =
 bag_itself : (b : Bag) → same_bag b b ≡ true
 bag_itself b = equally_itself same_access b
 
-terms_all : (P : Access → Type 0) (p : ℕ) (t : Tree) → All (λ u. All P (accesses u.tree)) (terms_from p t) → All P (accesses t)
+terms_all : (P : Access → Type 0) (p : ℕ) (t : Tree) → AllByRecursion (λ u. AllByRecursion P (accesses u.tree)) (terms_from p t) → AllByRecursion P (accesses t)
 terms_all P p (access x vs) h = h.0
 terms_all P p (group t) h = h.0
 terms_all P p (times a b) h = h.0
 terms_all P p (plus a b) h =
-    all_append P (accesses a) (accesses b) (terms_all P p a (all_front (λ u. All P (accesses u.tree)) (terms_from p a) _ h))
-    (all_back (λ u. All P (accesses u.tree)) (terms_from p a) _ h).0
+    all_append P (accesses a) (accesses b) (terms_all P p a (all_front (λ u. AllByRecursion P (accesses u.tree)) (terms_from p a) _ h))
+    (all_back (λ u. AllByRecursion P (accesses u.tree)) (terms_from p a) _ h).0
 
 -- every access of a line stands in one of its bags, and what holds of every access holds in all its bags
-line_covered : (l : Syntax) → All (λ a. Reached a (multiplied_out (line_of l))) (accesses l.body)
+line_covered : (l : Syntax) → AllByRecursion (λ a. Reached a (multiplied_out (line_of l))) (accesses l.body)
 line_covered l = terms_all (λ a. Reached a (multiplied_out (line_of l))) (body_place l) l.body (all_from_in _ (terms_from (body_place l) l.body) of_term)
   where
-    of_term : (u : Placed) → In u (terms_from (body_place l) l.body) → All (λ a. Reached a (multiplied_out (line_of l))) (accesses u.tree)
+    of_term : (u : Placed) → In u (terms_from (body_place l) l.body) → AllByRecursion (λ a. Reached a (multiplied_out (line_of l))) (accesses u.tree)
     of_term u k =
-        subst (λ (acs : List Access). All (λ a. Reached a (multiplied_out (line_of l))) acs) (standing_tree (accesses u.tree) u.tree 0 (from_start (accesses u.tree))).0
+        subst (λ (acs : List Access). AllByRecursion (λ a. Reached a (multiplied_out (line_of l))) acs) (standing_tree (accesses u.tree) u.tree 0 (from_start (accesses u.tree))).0
         (
         all_as (λ a. Reached a (bags (accesses u.tree) (expression u.tree 0))) (λ a. Reached a (multiplied_out (line_of l)))
         (λ a r. let (b, h, j) = r in (b, in_joined (λ (t : Term). bags t.accesses t.body) (term_of u) (line_of l).terms b (in_map term_of u (terms_from (body_place l) l.body) k) h, j))
         (standing (accesses u.tree) (expression u.tree 0)) (covered (accesses u.tree) (expression u.tree 0))
         )
 
-pub line_bags : (P : Access → Type 0) (l : Syntax) → All P (accesses l.body) → All (All P) (multiplied_out (line_of l))
+pub line_bags : (P : Access → Type 0) (l : Syntax) → AllByRecursion P (accesses l.body) → AllByRecursion (AllByRecursion P) (multiplied_out (line_of l))
 line_bags P l h =
-    all_joins (All P) (λ (t : Term). bags t.accesses t.body) (line_of l).terms
+    all_joins (AllByRecursion P) (λ (t : Term). bags t.accesses t.body) (line_of l).terms
     (
-    All-map (λ (t : Term). All (All P) (bags t.accesses t.body)) term_of (terms_from (body_place l) l.body)
-    (all_as (λ u. All P (accesses u.tree)) (λ u. All (All P) (bags (accesses u.tree) (expression u.tree 0))) of_term (terms_from (body_place l) l.body) (all_terms P (body_place l) l.body h))
+    All-map (λ (t : Term). AllByRecursion (AllByRecursion P) (bags t.accesses t.body)) term_of (terms_from (body_place l) l.body)
+    (all_as (λ u. AllByRecursion P (accesses u.tree)) (λ u. AllByRecursion (AllByRecursion P) (bags (accesses u.tree) (expression u.tree 0))) of_term (terms_from (body_place l) l.body) (all_terms P (body_place l) l.body h))
     )
   where
-    of_term : (u : Placed) → All P (accesses u.tree) → All (All P) (bags (accesses u.tree) (expression u.tree 0))
+    of_term : (u : Placed) → AllByRecursion P (accesses u.tree) → AllByRecursion (AllByRecursion P) (bags (accesses u.tree) (expression u.tree 0))
     of_term u k =
         bags_all (accesses u.tree) P (expression u.tree 0)
-        (subst (λ (acs : List Access). All P acs) (sym (standing_tree (accesses u.tree) u.tree 0 (from_start (accesses u.tree))).0) k)
+        (subst (λ (acs : List Access). AllByRecursion P acs) (sym (standing_tree (accesses u.tree) u.tree 0 (from_start (accesses u.tree))).0) k)
 
 -- an access of a line stands in another where every bag of the one has its like in the other
-carried : (l m : Syntax) → ((b : Bag) → In b (multiplied_out (line_of l)) → (c : Bag) × In c (multiplied_out (line_of m)) × (same_bag b c ≡ true)) → All (λ a. In a (accesses m.body)) (accesses l.body)
+carried : (l m : Syntax) → ((b : Bag) → In b (multiplied_out (line_of l)) → (c : Bag) × In c (multiplied_out (line_of m)) × (same_bag b c ≡ true)) → AllByRecursion (λ a. In a (accesses m.body)) (accesses l.body)
 carried l m like =
     all_as (λ a. Reached a (multiplied_out (line_of l))) (λ a. In a (accesses m.body))
     (
@@ -112,16 +112,16 @@ carried l m like =
     let (b, h, k) = r in
     let (c, j, t) = like b h in
     all_at (λ d. In d (accesses m.body)) a c
-    (all_at (All (λ d. In d (accesses m.body))) c (multiplied_out (line_of m)) (line_bags (λ d. In d (accesses m.body)) m (all_from_in (λ d. In d (accesses m.body)) (accesses m.body) (λ d i. i))) j)
+    (all_at (AllByRecursion (λ d. In d (accesses m.body))) c (multiplied_out (line_of m)) (line_bags (λ d. In d (accesses m.body)) m (all_from_in (λ d. In d (accesses m.body)) (accesses m.body) (λ d i. i))) j)
     (same_bag_in b c t a k)
     )
     (accesses l.body) (line_covered l)
 
 module _ (l m : Syntax) (h : alike (line_of l) (line_of m) ≡ true) where
-  pub same_accesses : All (λ a. In a (accesses m.body)) (accesses l.body)
+  pub same_accesses : AllByRecursion (λ a. In a (accesses m.body)) (accesses l.body)
   same_accesses = carried l m (there same_bag bag_itself (multiplied_out (line_of l)) (multiplied_out (line_of m)) h)
 
-  pub same_accesses_back : All (λ a. In a (accesses l.body)) (accesses m.body)
+  pub same_accesses_back : AllByRecursion (λ a. In a (accesses l.body)) (accesses m.body)
   same_accesses_back = carried m l (back same_bag bag_itself (multiplied_out (line_of l)) (multiplied_out (line_of m)) h)
 
 -- at an access two lines, each over its tensors, have the same extents and the same dense values
@@ -131,23 +131,23 @@ pub record Agrees {V : Type 0} (z : V) (ts us : Tensors V) (l m : Syntax) (a : A
 
 -- and so at all their accesses, in all their bags, at the variables of their terms and on the left
 pub record Agreeing {V : Type 0} (z : V) (ts us : Tensors V) (l m : Syntax) : Type 0 where
-  pub accesses_first : All (Agrees z ts us l m) (accesses l.body)
-  pub accesses_second : All (Agrees z ts us l m) (accesses m.body)
-  pub bags_first : All (All (Agrees z ts us l m)) (multiplied_out (line_of l))
-  pub bags_second : All (All (Agrees z ts us l m)) (multiplied_out (line_of m))
-  pub terms_first : (v : ℕ) → All (λ t. occurs t.accesses v t.body ≡ true → extent_of (extents_seen ts) l v ≡ extent_of (extents_seen us) m v) (line_of l).terms
-  pub terms_second : (v : ℕ) → All (λ t. occurs t.accesses v t.body ≡ true → extent_of (extents_seen ts) l v ≡ extent_of (extents_seen us) m v) (line_of m).terms
+  pub accesses_first : AllByRecursion (Agrees z ts us l m) (accesses l.body)
+  pub accesses_second : AllByRecursion (Agrees z ts us l m) (accesses m.body)
+  pub bags_first : AllByRecursion (AllByRecursion (Agrees z ts us l m)) (multiplied_out (line_of l))
+  pub bags_second : AllByRecursion (AllByRecursion (Agrees z ts us l m)) (multiplied_out (line_of m))
+  pub terms_first : (v : ℕ) → AllByRecursion (λ t. occurs t.accesses v t.body ≡ true → extent_of (extents_seen ts) l v ≡ extent_of (extents_seen us) m v) (line_of l).terms
+  pub terms_second : (v : ℕ) → AllByRecursion (λ t. occurs t.accesses v t.body ≡ true → extent_of (extents_seen ts) l v ≡ extent_of (extents_seen us) m v) (line_of m).terms
   pub left : (v : ℕ) → has l.left v ≡ true → extent_of (extents_seen ts) l v ≡ extent_of (extents_seen us) m v
 
 -- what holds of every access where a variable stands in it, holds of every term where the variable occurs
-terms_where : (Q : Type 0) (v p : ℕ) (t : Tree) → All (λ a. has a.vars v ≡ true → Q) (accesses t) → All (λ u. occurs (accesses u.tree) v (expression u.tree 0) ≡ true → Q) (terms_from p t)
+terms_where : (Q : Type 0) (v p : ℕ) (t : Tree) → AllByRecursion (λ a. has a.vars v ≡ true → Q) (accesses t) → AllByRecursion (λ u. occurs (accesses u.tree) v (expression u.tree 0) ≡ true → Q) (terms_from p t)
 terms_where Q v p t h =
-    all_as (λ u. All (λ a. has a.vars v ≡ true → Q) (accesses u.tree)) (λ u. occurs (accesses u.tree) v (expression u.tree 0) ≡ true → Q)
+    all_as (λ u. AllByRecursion (λ a. has a.vars v ≡ true → Q) (accesses u.tree)) (λ u. occurs (accesses u.tree) v (expression u.tree 0) ≡ true → Q)
     (λ u k o. has_some (accesses u.tree) v Q k (sym (occurs_tree (accesses u.tree) v u.tree 0 (from_start (accesses u.tree))) ∙ o))
     (terms_from p t) (all_terms (λ a. has a.vars v ≡ true → Q) p t h)
 
 -- there is a first term
-first_term : (P : Placed → Type 0) (p : ℕ) (t : Tree) → All P (terms_from p t) → (u : Placed) × P u
+first_term : (P : Placed → Type 0) (p : ℕ) (t : Tree) → AllByRecursion P (terms_from p t) → (u : Placed) × P u
 first_term P p (access x vs) h = (_, h.0)
 first_term P p (group t) h = (_, h.0)
 first_term P p (times a b) h = (_, h.0)
@@ -168,16 +168,16 @@ module _ {V : Type 0} (z : V) (ts us : Tensors V) (l m : Syntax) where
         values = e.1;
       }
 
-  terms_agree : (n : Syntax) → All (Agrees z ts us l m) (accesses n.body) → (v : ℕ) → All (λ t. occurs t.accesses v t.body ≡ true → SameExtent v) (line_of n).terms
+  terms_agree : (n : Syntax) → AllByRecursion (Agrees z ts us l m) (accesses n.body) → (v : ℕ) → AllByRecursion (λ t. occurs t.accesses v t.body ≡ true → SameExtent v) (line_of n).terms
   terms_agree n h v =
       All-map (λ (t : Term). occurs t.accesses v t.body ≡ true → SameExtent v) term_of (terms_from (body_place n) n.body)
       (terms_where (SameExtent v) v (body_place n) n.body (all_as (Agrees z ts us l m) (λ a. has a.vars v ≡ true → SameExtent v) (λ a g. g.extents v) (accesses n.body) h))
 
-  left_agrees : All (Agrees z ts us l m) (accesses l.body) → All (Whole l.left) (terms_from (body_place l) l.body) → (v : ℕ) → has l.left v ≡ true → SameExtent v
+  left_agrees : AllByRecursion (Agrees z ts us l m) (accesses l.body) → AllByRecursion (Whole l.left) (terms_from (body_place l) l.body) → (v : ℕ) → has l.left v ≡ true → SameExtent v
   left_agrees h w v k =
       (first_term (λ u. SameExtent v) (body_place l) l.body
       (
-      all_both (λ u. All (Agrees z ts us l m) (accesses u.tree)) (Whole l.left) (λ u. SameExtent v)
+      all_both (λ u. AllByRecursion (Agrees z ts us l m) (accesses u.tree)) (Whole l.left) (λ u. SameExtent v)
       (
       λ u g c. has_some (accesses u.tree) v (SameExtent v)
       (all_as (Agrees z ts us l m) (λ a. has a.vars v ≡ true → SameExtent v) (λ a g'. g'.extents v) (accesses u.tree) g)
@@ -192,13 +192,13 @@ module _ {V : Type 0} (z : V) (ts us : Tensors V) (l m : Syntax) where
   agree_extents s r first second like agree =
       let rules = clean (extents_seen ts) l first.1 in
       let others = sound (extents_seen us) m (clean (extents_seen us) m second.1) in
-      let here : All (Agrees z ts us l m) (accesses l.body) =
+      let here : AllByRecursion (Agrees z ts us l m) (accesses l.body) =
       all_both (Sound (extents_seen ts) l) _ (Agrees z ts us l m) (λ a t g. g t) (accesses l.body) (sound (extents_seen ts) l rules)
       (
       all_both (λ a. In a (accesses m.body)) _ (λ a. Sound (extents_seen ts) l a → Agrees z ts us l m a)
       (λ a i e t. access_agrees a t (all_at (Sound (extents_seen us) m) a (accesses m.body) others i) e) (accesses l.body) (same_accesses l m like) agree
       ) in
-      let over : All (Agrees z ts us l m) (accesses m.body) =
+      let over : AllByRecursion (Agrees z ts us l m) (accesses m.body) =
       all_as (λ a. In a (accesses l.body)) (Agrees z ts us l m) (λ a i. all_at (Agrees z ts us l m) a (accesses l.body) here i) (accesses m.body) (same_accesses_back l m like) in
       record {
         accesses_first = here;

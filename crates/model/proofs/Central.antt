@@ -1,6 +1,6 @@
 -- The central theorem, and the agreement of lines, from acceptance. Assumes nothing.
 use Rattle.std.proofs.Common.{◌≡◌, ℕ, true, List, sym, ◌∙◌, subst}
-use Rattle.std.specs.List.{AllByRecursion as All}
+use Rattle.std.specs.List.{AllByRecursion}
 use Rattle.std.proofs.ByRecursion.{All-weaker}
 use Rattle.model.specs.Tensors.{has}
 use Rattle.model.specs.Terms.{Access}
@@ -27,7 +27,7 @@ agreement V K laws test ts us T U hold held s r l m first second left like agree
     (meaning V K laws test ts T hold s l first).1
     ∙ sums_alike_lines V K laws one dense (line_of l) (line_of m) left like
     ∙ listing_agrees K one other dense others (line_of m) (λ v h. same.left v (subst (λ vs. has vs v ≡ true) (sym left) h))
-    (All-weaker (All (Agrees K.zero ts us l m)) (All at) (λ b. All-weaker (Agrees K.zero ts us l m) at (λ a g. (g.extents, g.values)) b) (multiplied_out (line_of m)) same.bags_second)
+    (All-weaker (AllByRecursion (Agrees K.zero ts us l m)) (AllByRecursion at) (λ b. All-weaker (Agrees K.zero ts us l m) at (λ a g. (g.extents, g.values)) b) (multiplied_out (line_of m)) same.bags_second)
     ∙ sym (meaning V K laws test us U held r m second).1
   where
     one : ℕ → ℕ

@@ -1,6 +1,6 @@
 -- The accesses of a line are those of the bags that it multiplies out to. Assumes nothing.
 use Rattle.std.proofs.Common.{◌≡◌, ◌⊎◌, List, [], ◌∷◌, ◌++◌, map, sym, refl, ap, subst, inl, inr}
-use Rattle.std.specs.List.{flat_map, AllByRecursion as All}
+use Rattle.std.specs.List.{flat_map, AllByRecursion}
 use Rattle.std.proofs.ByRecursion.{All-map}
 use Rattle.model.specs.Terms.{Access, Expr, operand, product, sum, Parts, last, more, nth_access}
 use Rattle.model.specs.Sums.{Bag, bags, bags_product, bags_sum}
@@ -27,16 +27,16 @@ module _ {A : Type 0} where
   in_map f x (y ∷ xs) (inl e) = inl (ap f e)
   in_map f x (y ∷ xs) (inr h) = inr (in_map f x xs h)
 
-  pub all_at : (P : A → Type 0) (x : A) (xs : List A) → All P xs → In x xs → P x
+  pub all_at : (P : A → Type 0) (x : A) (xs : List A) → AllByRecursion P xs → In x xs → P x
   all_at P x [] a h = absurd h
   all_at P x (y ∷ xs) a (inl e) = subst P e a.0
   all_at P x (y ∷ xs) a (inr h) = all_at P x xs a.1 h
 
-  pub all_from_in : (P : A → Type 0) (xs : List A) → ((x : A) → In x xs → P x) → All P xs
+  pub all_from_in : (P : A → Type 0) (xs : List A) → ((x : A) → In x xs → P x) → AllByRecursion P xs
   all_from_in P [] f = tt
   all_from_in P (x ∷ xs) f = (f x (inl refl), all_from_in P xs (λ y h. f y (inr h)))
 
-  pub all_joins : {B : Type 0} (P : B → Type 0) (f : A → List B) (xs : List A) → All (λ x. All P (f x)) xs → All P (flat_map f xs)
+  pub all_joins : {B : Type 0} (P : B → Type 0) (f : A → List B) (xs : List A) → AllByRecursion (λ x. AllByRecursion P (f x)) xs → AllByRecursion P (flat_map f xs)
   all_joins P f [] h = tt
   all_joins P f (x ∷ xs) h = all_append P (f x) (flat_map f xs) h.0 (all_joins P f xs h.1)
 
@@ -73,12 +73,12 @@ module _ (acs : List Access) where
 
   mutual
     -- every access of an expression stands in one of its bags
-    pub covered : (e : Expr) → All (λ a. Reached a (bags acs e)) (standing acs e)
+    pub covered : (e : Expr) → AllByRecursion (λ a. Reached a (bags acs e)) (standing acs e)
     covered (operand i) = ((nth_access acs i ∷ [], inl refl, inl refl), tt)
     covered (product ps) = covered_product ps
     covered (sum ps) = covered_sum ps
 
-    covered_product : (ps : Parts) → All (λ a. Reached a (bags_product acs ps)) (standing_in acs ps)
+    covered_product : (ps : Parts) → AllByRecursion (λ a. Reached a (bags_product acs ps)) (standing_in acs ps)
     covered_product (last e) = covered e
     covered_product (more e ps) =
         all_append (λ a. Reached a (bags_product acs (more e ps))) (standing acs e) (standing_in acs ps)
@@ -93,7 +93,7 @@ module _ (acs : List Access) where
         (standing_in acs ps) (covered_product ps)
         )
 
-    covered_sum : (ps : Parts) → All (λ a. Reached a (bags_sum acs ps)) (standing_in acs ps)
+    covered_sum : (ps : Parts) → AllByRecursion (λ a. Reached a (bags_sum acs ps)) (standing_in acs ps)
     covered_sum (last e) = covered e
     covered_sum (more e ps) =
         all_append (λ a. Reached a (bags_sum acs (more e ps))) (standing acs e) (standing_in acs ps)
@@ -108,25 +108,25 @@ module _ (acs : List Access) where
 
   -- what holds of every access of an expression holds in all its bags
   module _ (P : Access → Type 0) where
-    all_products : (bs cs : List Bag) → All (All P) bs → All (All P) cs → All (All P) (flat_map (λ b. map (λ c. b ++ c) cs) bs)
+    all_products : (bs cs : List Bag) → AllByRecursion (AllByRecursion P) bs → AllByRecursion (AllByRecursion P) cs → AllByRecursion (AllByRecursion P) (flat_map (λ b. map (λ c. b ++ c) cs) bs)
     all_products bs cs h k =
-        all_joins (All P) (λ b. map (λ c. b ++ c) cs) bs
-        (all_as (All P) (λ b. All (All P) (map (λ c. b ++ c) cs)) (λ b hb. All-map (All P) (λ c. b ++ c) cs (all_as (All P) (λ c. All P (b ++ c)) (λ c hc. all_append P b c hb hc) cs k)) bs h)
+        all_joins (AllByRecursion P) (λ b. map (λ c. b ++ c) cs) bs
+        (all_as (AllByRecursion P) (λ b. AllByRecursion (AllByRecursion P) (map (λ c. b ++ c) cs)) (λ b hb. All-map (AllByRecursion P) (λ c. b ++ c) cs (all_as (AllByRecursion P) (λ c. AllByRecursion P (b ++ c)) (λ c hc. all_append P b c hb hc) cs k)) bs h)
 
     mutual
-      pub bags_all : (e : Expr) → All P (standing acs e) → All (All P) (bags acs e)
+      pub bags_all : (e : Expr) → AllByRecursion P (standing acs e) → AllByRecursion (AllByRecursion P) (bags acs e)
       bags_all (operand i) h = (h, tt)
       bags_all (product ps) h = product_all ps h
       bags_all (sum ps) h = sum_all ps h
 
-      product_all : (ps : Parts) → All P (standing_in acs ps) → All (All P) (bags_product acs ps)
+      product_all : (ps : Parts) → AllByRecursion P (standing_in acs ps) → AllByRecursion (AllByRecursion P) (bags_product acs ps)
       product_all (last e) h = bags_all e h
       product_all (more e ps) h =
           all_products (bags acs e) (bags_product acs ps)
           (bags_all e (all_front P (standing acs e) (standing_in acs ps) h)) (product_all ps (all_back P (standing acs e) (standing_in acs ps) h))
 
-      sum_all : (ps : Parts) → All P (standing_in acs ps) → All (All P) (bags_sum acs ps)
+      sum_all : (ps : Parts) → AllByRecursion P (standing_in acs ps) → AllByRecursion (AllByRecursion P) (bags_sum acs ps)
       sum_all (last e) h = bags_all e h
       sum_all (more e ps) h =
-          all_append (All P) (bags acs e) (bags_sum acs ps)
+          all_append (AllByRecursion P) (bags acs e) (bags_sum acs ps)
           (bags_all e (all_front P (standing acs e) (standing_in acs ps) h)) (sum_all ps (all_back P (standing acs e) (standing_in acs ps) h))

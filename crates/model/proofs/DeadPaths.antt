@@ -1,7 +1,7 @@
 -- Dead is zero: where a coordinate is not among the merged ones, the expression's value is zero. Assumes nothing.
 use Rattle.std.proofs.Common.{◌≡◌, ℕ, Bool, true, false, cond, ◌&&◌, ◌||◌, ◌⊎◌, List, [], ◌∷◌, map, sym, refl, ap, ◌∙◌, ap₂, inl, inr, true≢false}
 use mathlib.Core.Bool.{false≢true}
-use Rattle.std.specs.List.{AllByRecursion as All}
+use Rattle.std.specs.List.{AllByRecursion}
 use Rattle.model.specs.Semirings.{Algebra, Laws}
 use Rattle.model.specs.Tensors.{has}
 use Rattle.model.specs.Terms.{Access, Expr, operand, product, sum, Parts, last, more, nth_access, occurs, occurs_in}
@@ -91,11 +91,11 @@ module _ {V : Type 0} (K : Algebra V) (laws : Laws K) where
   product_nought (x ∷ xs) (inl e) = nought_folds x xs e
   product_nought (x ∷ xs) (inr h) = some_folds x xs h
 
-  sum_folds : (x : V) (xs : List V) → x ≡ K.zero → All (λ y. y ≡ K.zero) xs → folds K.sum x xs ≡ K.zero
+  sum_folds : (x : V) (xs : List V) → x ≡ K.zero → AllByRecursion (λ y. y ≡ K.zero) xs → folds K.sum x xs ≡ K.zero
   sum_folds x [] e h = e
   sum_folds x (y ∷ xs) e h = sum_folds (K.sum x y) xs (ap₂ K.sum e h.0 ∙ laws.sum_zero K.zero) h.1
 
-  sum_nought : (xs : List V) → All (λ y. y ≡ K.zero) xs → fold_of K.zero K.sum xs ≡ K.zero
+  sum_nought : (xs : List V) → AllByRecursion (λ y. y ≡ K.zero) xs → fold_of K.zero K.sum xs ≡ K.zero
   sum_nought [] h = refl
   sum_nought (x ∷ xs) h = sum_folds x xs h.0 h.1
 
@@ -148,7 +148,7 @@ module _ {V : Type 0} (K : Algebra V) (laws : Laws K) where
       dead_some (last e) ev h = some_last e (occurs acs v e) (has (L e) c) refl h (λ o g. dead e ev o g)
       dead_some (more e ps) ev h = some_more e ps (occurs acs v e) (has (L e) c) refl h (λ o g. dead e ev.0 o g) (λ g. dead_some ps ev.1 g)
 
-      dead_every : (ps : Parts) → EvenIn acs v ps → EachOccurs acs v ps → any_has c (Ls ps) ≡ false → All (λ y. y ≡ K.zero) (part_values ps)
+      dead_every : (ps : Parts) → EvenIn acs v ps → EachOccurs acs v ps → any_has c (Ls ps) ≡ false → AllByRecursion (λ y. y ≡ K.zero) (part_values ps)
       dead_every (last e) ev o h = (dead e ev o (or_none (has (L e) c) false (sym (ap (λ b. any_has c (cond b (L e ∷ []) [])) o) ∙ h)).0, tt)
       dead_every (more e ps) ev o h =
           let both = or_none (has (L e) c) (any_has c (Ls ps)) (sym (ap (λ b. any_has c (cond b (L e ∷ Ls ps) (Ls ps))) o.0) ∙ h) in

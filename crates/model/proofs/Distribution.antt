@@ -2,7 +2,7 @@
 use Rattle.std.proofs.Common.{◌≡◌, ℕ, Bool, true, false, ◌||◌, List, [], ◌∷◌, ◌++◌, map, sym, refl, ap, ◌∙◌, subst, ap₂, true≢false, append-nil}
 use mathlib.Core.Path.{fun_ext}
 use mathlib.Core.List.{map-append}
-use Rattle.std.specs.List.{flat_map, AllByRecursion as All}
+use Rattle.std.specs.List.{flat_map, AllByRecursion}
 use Rattle.std.proofs.ByRecursion.{All-append}
 use Rattle.model.specs.Semirings.{Algebra, Laws, total}
 use Rattle.model.specs.Tensors.{has}
@@ -15,11 +15,11 @@ use Rattle.model.proofs.Variables.{has_append, or_none}
 use Rattle.model.proofs.MergeMeaning.{meant, meant_parts, folds, fold_of, Filled}
 
 -- P of all products, from Q and R of the factors
-pub all_products : (P Q R : Bag → Type 0) → ((b c : Bag) → Q b → R c → P (b ++ c)) → (bs cs : List Bag) → All Q bs → All R cs → All P (flat_map (λ b. map (λ c. b ++ c) cs) bs)
+pub all_products : (P Q R : Bag → Type 0) → ((b c : Bag) → Q b → R c → P (b ++ c)) → (bs cs : List Bag) → AllByRecursion Q bs → AllByRecursion R cs → AllByRecursion P (flat_map (λ b. map (λ c. b ++ c) cs) bs)
 all_products P Q R f [] cs h k = tt
 all_products P Q R f (b ∷ bs) cs h k = All-append P (map (λ c. b ++ c) cs) (flat_map (λ d. map (λ c. d ++ c) cs) bs) (one cs k) (all_products P Q R f bs cs h.1 k)
   where
-    one : (ds : List Bag) → All R ds → All P (map (λ c. b ++ c) ds)
+    one : (ds : List Bag) → AllByRecursion R ds → AllByRecursion P (map (λ c. b ++ c) ds)
     one [] k1 = tt
     one (d ∷ ds) k1 = (f b d h.0 k1.0, one ds k1.1)
 
@@ -43,16 +43,16 @@ folds_first f assoc a b (c ∷ bs) = ap (λ x. folds f x bs) (assoc a b c) ∙ f
 
 module _ (acs : List Access) where
   mutual
-    pub bags_filled : (e : Expr) → All Filled (bags acs e)
+    pub bags_filled : (e : Expr) → AllByRecursion Filled (bags acs e)
     bags_filled (operand i) = (tt, tt)
     bags_filled (product ps) = products_filled ps
     bags_filled (sum ps) = sums_filled ps
 
-    products_filled : (ps : Parts) → All Filled (bags_product acs ps)
+    products_filled : (ps : Parts) → AllByRecursion Filled (bags_product acs ps)
     products_filled (last e) = bags_filled e
     products_filled (more e ps) = all_products Filled Filled Filled filled_append (bags acs e) (bags_product acs ps) (bags_filled e) (products_filled ps)
 
-    sums_filled : (ps : Parts) → All Filled (bags_sum acs ps)
+    sums_filled : (ps : Parts) → AllByRecursion Filled (bags_sum acs ps)
     sums_filled (last e) = bags_filled e
     sums_filled (more e ps) = All-append Filled (bags acs e) (bags_sum acs ps) (bags_filled e) (sums_filled ps)
 
@@ -63,23 +63,23 @@ module _ (acs : List Access) where
   each_is v (last e) h = h
   each_is v (more e ps) h = ap (λ b. b || occurs_in acs v ps) h.0
 
-  all_as : (v : ℕ) {b d : Bool} → b ≡ d → (gs : List Bag) → All (HasAs v b) gs → All (HasAs v d) gs
-  all_as v e gs h = subst (λ b. All (HasAs v b) gs) e h
+  all_as : (v : ℕ) {b d : Bool} → b ≡ d → (gs : List Bag) → AllByRecursion (HasAs v b) gs → AllByRecursion (HasAs v d) gs
+  all_as v e gs h = subst (λ b. AllByRecursion (HasAs v b) gs) e h
 
   mutual
     -- every bag of an expression has the expression's variables
-    pub bags_occur : (v : ℕ) (e : Expr) → Even acs v e → All (HasAs v (occurs acs v e)) (bags acs e)
+    pub bags_occur : (v : ℕ) (e : Expr) → Even acs v e → AllByRecursion (HasAs v (occurs acs v e)) (bags acs e)
     bags_occur v (operand i) ev = (ap (λ l. has l v) (append-nil (nth_access acs i).vars), tt)
     bags_occur v (product ps) ev = products_occur v ps ev
     bags_occur v (sum ps) ev = sums_occur v ps ev.0 (occurs_in acs v ps) refl ev.1
 
-    products_occur : (v : ℕ) (ps : Parts) → EvenIn acs v ps → All (HasAs v (occurs_in acs v ps)) (bags_product acs ps)
+    products_occur : (v : ℕ) (ps : Parts) → EvenIn acs v ps → AllByRecursion (HasAs v (occurs_in acs v ps)) (bags_product acs ps)
     products_occur v (last e) ev = bags_occur v e ev
     products_occur v (more e ps) ev =
         all_products (HasAs v (occurs acs v e || occurs_in acs v ps)) (HasAs v (occurs acs v e)) (HasAs v (occurs_in acs v ps))
         (λ b c h k. in_bag_append b c v ∙ ap₂ ◌||◌ h k) (bags acs e) (bags_product acs ps) (bags_occur v e ev.0) (products_occur v ps ev.1)
 
-    sums_occur : (v : ℕ) (ps : Parts) → EvenIn acs v ps → (b : Bool) → occurs_in acs v ps ≡ b → (occurs_in acs v ps ≡ true → EachOccurs acs v ps) → All (HasAs v (occurs_in acs v ps)) (bags_sum acs ps)
+    sums_occur : (v : ℕ) (ps : Parts) → EvenIn acs v ps → (b : Bool) → occurs_in acs v ps ≡ b → (occurs_in acs v ps ≡ true → EachOccurs acs v ps) → AllByRecursion (HasAs v (occurs_in acs v ps)) (bags_sum acs ps)
     sums_occur v (last e) ev b q each = bags_occur v e ev
     sums_occur v (more e ps) ev true q each =
         let all = each q in
@@ -106,11 +106,11 @@ module _ {V : Type 0} (K : Algebra V) (laws : Laws K) (extent : ℕ → ℕ) (de
   sum_of_bags bs s = total K (map (λ b. of_bag b s) bs)
 
   -- one bag by a sum of bags, and a sum by a sum
-  one_by : (b : Bag) (cs : List Bag) (s : Assignment) → Filled b → All Filled cs → sum_of_bags (map (λ c. b ++ c) cs) s ≡ K.product (of_bag b s) (sum_of_bags cs s)
+  one_by : (b : Bag) (cs : List Bag) (s : Assignment) → Filled b → AllByRecursion Filled cs → sum_of_bags (map (λ c. b ++ c) cs) s ≡ K.product (of_bag b s) (sum_of_bags cs s)
   one_by b [] s h k = sym (laws.product_comm (of_bag b s) K.zero ∙ laws.product_zero (of_bag b s))
   one_by b (c ∷ cs) s h k = ap₂ K.sum (product_append b c s h k.0) (one_by b cs s h k.1) ∙ sym (laws.product_sum (of_bag b s) (of_bag c s) (sum_of_bags cs s))
 
-  all_by : (bs cs : List Bag) (s : Assignment) → All Filled bs → All Filled cs → sum_of_bags (flat_map (λ b. map (λ c. b ++ c) cs) bs) s ≡ K.product (sum_of_bags bs s) (sum_of_bags cs s)
+  all_by : (bs cs : List Bag) (s : Assignment) → AllByRecursion Filled bs → AllByRecursion Filled cs → sum_of_bags (flat_map (λ b. map (λ c. b ++ c) cs) bs) s ≡ K.product (sum_of_bags bs s) (sum_of_bags cs s)
   all_by [] cs s h k = sym (laws.product_zero (sum_of_bags cs s))
   all_by (b ∷ bs) cs s h k =
       ap (total K) (map-append (λ d. of_bag d s) (map (λ c. b ++ c) cs) (flat_map (λ d. map (λ c. d ++ c) cs) bs))

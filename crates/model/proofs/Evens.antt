@@ -1,6 +1,6 @@
 -- In every sum inside a term each part has the same variables. Assumes nothing.
 use Rattle.std.proofs.Common.{◌≡◌, ℕ, ◌+◌, ◌≤◌, Bool, true, false, ◌||◌, List, ◌++◌, length, sym, refl, ap, ◌∙◌, subst, ap₂, arith}
-use Rattle.std.specs.List.{AllByRecursion as All}
+use Rattle.std.specs.List.{AllByRecursion}
 use Rattle.std.proofs.lemmas.Bool.{not-false}
 use Rattle.model.specs.Tensors.{has}
 use Rattle.model.specs.Terms.{Access, Parts, last, more, occurs}
@@ -78,7 +78,7 @@ inside p (times a b) g h = ap₂ (λ (x y : List Check). x ++ y) (inside p a g.0
 inside p (plus a b) g h = absurd (omega arith)
 
 -- so the checks of a line are, term by term, those of a sum inside brackets
-pub terms_pass : (p : ℕ) (t : Tree) → Grammatical t → Passes (additions p false t) → All (λ u. Passes (additions u.place true u.tree)) (terms_from p t)
+pub terms_pass : (p : ℕ) (t : Tree) → Grammatical t → Passes (additions p false t) → AllByRecursion (λ u. Passes (additions u.place true u.tree)) (terms_from p t)
 terms_pass p (access l vs) g h = (tt, tt)
 terms_pass p (group t) g h = (h, tt)
 terms_pass p (times a b) g h = (subst Passes (inside p (times a b) g (omega arith)) h, tt)

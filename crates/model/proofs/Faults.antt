@@ -1,7 +1,7 @@
 -- Where no place is at fault, every check passes; and tests over lists of numbers as facts. Assumes nothing.
 use Rattle.std.proofs.Common.{◌≡◌, ℕ, zero, suc, ◌+◌, ◌<◌, Bool, true, false, cond, not, ◌||◌, eqb, List, [], ◌∷◌, ◌++◌, map, length, get_or, Some, None, Option, sym, refl, ap, ◌∙◌, subst, ap₂, true≢false, le_of_suc-le-suc, not-suc-le-zero}
 use mathlib.Core.Bool.{false≢true}
-use Rattle.std.specs.List.{flat_map, AllByRecursion as All}
+use Rattle.std.specs.List.{flat_map, AllByRecursion}
 use Rattle.std.proofs.lemmas.Bool.{eq-eqb, eqb-true, or_parts, and_parts}
 use Rattle.model.specs.Tensors.{has, same}
 use Rattle.model.specs.Conditions.{Check, first_fault, leftmost, LineFault, Rule, or_else, repeats, all_in, same_vars, order_checks}
@@ -20,7 +20,7 @@ abbrev pub Pass : Check → Type 0
 Pass c = c.1 ≡ false
 
 abbrev pub Passes : List Check → Type 0
-Passes cs = All Pass cs
+Passes cs = AllByRecursion Pass cs
 
 pub every_passes : (cs : List Check) → first_fault cs ≡ None → Passes cs
 every_passes [] h = tt
@@ -40,36 +40,36 @@ no_fault None r rest h = (refl, h)
 no_fault (Some p) r rest h = absurd (some_none _ h)
 
 module _ {A : Type 0} (P : A → Type 0) where
-  pub all_append : (xs ys : List A) → All P xs → All P ys → All P (xs ++ ys)
+  pub all_append : (xs ys : List A) → AllByRecursion P xs → AllByRecursion P ys → AllByRecursion P (xs ++ ys)
   all_append [] ys h k = k
   all_append (x ∷ xs) ys h k = (h.0, all_append xs ys h.1 k)
 
-  pub all_front : (xs ys : List A) → All P (xs ++ ys) → All P xs
+  pub all_front : (xs ys : List A) → AllByRecursion P (xs ++ ys) → AllByRecursion P xs
   all_front [] ys h = tt
   all_front (x ∷ xs) ys h = (h.0, all_front xs ys h.1)
 
-  pub all_back : (xs ys : List A) → All P (xs ++ ys) → All P ys
+  pub all_back : (xs ys : List A) → AllByRecursion P (xs ++ ys) → AllByRecursion P ys
   all_back [] ys h = h
   all_back (x ∷ xs) ys h = all_back xs ys h.1
 
-  pub all_mapped : {B : Type 0} (f : B → A) (xs : List B) → All P (map f xs) → All (λ x. P (f x)) xs
+  pub all_mapped : {B : Type 0} (f : B → A) (xs : List B) → AllByRecursion P (map f xs) → AllByRecursion (λ x. P (f x)) xs
   all_mapped f [] h = tt
   all_mapped f (x ∷ xs) h = (h.0, all_mapped f xs h.1)
 
-  pub all_joined : {B : Type 0} (f : B → List A) (xs : List B) → All P (flat_map f xs) → All (λ x. All P (f x)) xs
+  pub all_joined : {B : Type 0} (f : B → List A) (xs : List B) → AllByRecursion P (flat_map f xs) → AllByRecursion (λ x. AllByRecursion P (f x)) xs
   all_joined f [] h = tt
   all_joined f (x ∷ xs) h = (all_front (f x) (flat_map f xs) h, all_joined f xs (all_back (f x) (flat_map f xs) h))
 
-  pub all_both : (Q R : A → Type 0) → ((x : A) → P x → Q x → R x) → (xs : List A) → All P xs → All Q xs → All R xs
+  pub all_both : (Q R : A → Type 0) → ((x : A) → P x → Q x → R x) → (xs : List A) → AllByRecursion P xs → AllByRecursion Q xs → AllByRecursion R xs
   all_both Q R f [] h k = tt
   all_both Q R f (x ∷ xs) h k = (f x h.0 k.0, all_both Q R f xs h.1 k.1)
 
-  pub all_as : (Q : A → Type 0) → ((x : A) → P x → Q x) → (xs : List A) → All P xs → All Q xs
+  pub all_as : (Q : A → Type 0) → ((x : A) → P x → Q x) → (xs : List A) → AllByRecursion P xs → AllByRecursion Q xs
   all_as Q f [] h = tt
   all_as Q f (x ∷ xs) h = (f x h.0, all_as Q f xs h.1)
 
   -- what holds of each holds of the nth
-  pub all_nth : (xs : List A) (i : ℕ) (d : A) → i < length xs → All P xs → P (get_or xs i d)
+  pub all_nth : (xs : List A) (i : ℕ) (d : A) → i < length xs → AllByRecursion P xs → P (get_or xs i d)
   all_nth [] i d h k = absurd (not-suc-le-zero h)
   all_nth (x ∷ xs) zero d h k = k.0
   all_nth (x ∷ xs) (suc i) d h k = all_nth xs i d (le_of_suc-le-suc h) k.1

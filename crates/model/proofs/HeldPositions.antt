@@ -1,6 +1,6 @@
 -- What is held determines the value positions: the nodes below lawful levels list each position once, with the coordinates that lead to it. Assumes nothing.
 use Rattle.std.proofs.Common.{◌≡◌, ℕ, suc, ◌+◌, ◌<◌, cond, eqb, ◌⊎◌, List, [], ◌∷◌, ◌++◌, map, length, Some, sym, refl, ap, ◌∙◌, subst, inl, inr, append_assoc, append-nil, arith}
-use Rattle.std.specs.List.{flat_map, AllByRecursion as All}
+use Rattle.std.specs.List.{flat_map, AllByRecursion}
 use Rattle.std.proofs.lemmas.List.FromFn.{fill_by_all}
 use Rattle.std.proofs.ByRecursion.{All-append, All-map, All-from_get_or, All-weaker}
 use Rattle.std.proofs.lemmas.List.{length-append, length-map, map-append}
@@ -29,19 +29,19 @@ numbers_below cs [] = refl
 numbers_below cs (x ∷ f) = ap (λ xs. x.1 ∷ xs) (numbers_below cs f)
 
 -- what holds of all that each leads to
-all_through : (P Q : Node → Type 0) (l : Level) → ((n : Node) → P n → All Q (below l n)) → (ns : List Node) → All P ns → All Q (flat_map (below l) ns)
+all_through : (P Q : Node → Type 0) (l : Level) → ((n : Node) → P n → AllByRecursion Q (below l n)) → (ns : List Node) → AllByRecursion P ns → AllByRecursion Q (flat_map (below l) ns)
 all_through P Q l f [] h = tt
 all_through P Q l f (n ∷ ns) h = All-append Q (below l n) (flat_map (below l) ns) (f n h.0) (all_through P Q l f ns h.1)
 
 -- the nodes have the numbers below f, each once
 record Counted (f : ℕ) (ns : List Node) : Type 0 where
-  pub within : All (λ n. n.0 < f) ns
+  pub within : AllByRecursion (λ n. n.0 < f) ns
   pub once : (j : ℕ) → j < f → often eqb j (numbers ns) ≡ 1
 
 -- a child of one fiber only stands as often as the number of that fiber
 through_one :
     (l : Level) (f j p : ℕ) → often eqb j (children (fiber l p)) ≡ 1 → ((q : ℕ) → q < f → (q ≡ p → ⊥) → often eqb j (children (fiber l q)) ≡ 0)
-    → (ns : List Node) → All (λ n. n.0 < f) ns → often eqb j (numbers (flat_map (below l) ns)) ≡ often eqb p (numbers ns)
+    → (ns : List Node) → AllByRecursion (λ n. n.0 < f) ns → often eqb j (numbers (flat_map (below l) ns)) ≡ often eqb p (numbers ns)
 through_one l f j p one none [] h = refl
 through_one l f j p one none (n ∷ ns) h =
     let parts : often eqb j (numbers (below l n ++ flat_map (below l) ns)) ≡ often eqb j (children (fiber l n.0)) + often eqb j (numbers (flat_map (below l) ns)) =
@@ -77,7 +77,7 @@ counted_through e f m l ns law c = record {
         ∙ c.once p p_in
 
 -- a coordinate that an ascending fiber holds leads to its own child
-child_found : (f : Fiber) → Ascends (coords f) → All (λ x. child f x.0 ≡ Some x.1) f
+child_found : (f : Fiber) → Ascends (coords f) → AllByRecursion (λ x. child f x.0 ≡ Some x.1) f
 child_found [] h = tt
 child_found (x ∷ f) h = (
   cond-true (eqb x.0 x.0) (Some x.1) (child f x.0) (eq-eqb x.0 x.0 refl),
@@ -90,7 +90,7 @@ child_found (x ∷ f) h = (
 abbrev Leads : List Level → List Level → ℕ → Node → Type 0
 Leads all left k n = ((cs : List ℕ) → reached all (Some 0) (n.1 ++ cs) ≡ reached left (Some n.0) cs) × (length n.1 ≡ k)
 
-leads_through : (all ls : List Level) (l : Level) (k e f m : ℕ) → Lawful e f m l → (n : Node) → n.0 < f → Leads all (l ∷ ls) k n → All (Leads all ls (suc k)) (below l n)
+leads_through : (all ls : List Level) (l : Level) (k e f m : ℕ) → Lawful e f m l → (n : Node) → n.0 < f → Leads all (l ∷ ls) k n → AllByRecursion (Leads all ls (suc k)) (below l n)
 leads_through all ls l k e f m law n lt h =
     All-map (Leads all ls (suc k)) (λ (x : ℕ × ℕ). (x.1, n.1 ++ x.0 ∷ [])) (fiber l n.0)
     (
@@ -106,11 +106,11 @@ leads_through all ls l k e f m law n lt h =
 
 -- the nodes below all levels
 nodes_stand :
-    (all : List Level) (es : List ℕ) (f : ℕ) (ls : List Level) (n k : ℕ) (ns : List Node) → Stacked es f ls n → Counted f ns → All (Leads all ls k) ns
-    → Counted n (nodes ls ns) × All (Leads all [] (k + length es)) (nodes ls ns)
+    (all : List Level) (es : List ℕ) (f : ℕ) (ls : List Level) (n k : ℕ) (ns : List Node) → Stacked es f ls n → Counted f ns → AllByRecursion (Leads all ls k) ns
+    → Counted n (nodes ls ns) × AllByRecursion (Leads all [] (k + length es)) (nodes ls ns)
 nodes_stand all [] f [] n k ns s c h =
     let same : k ≡ k + 0 = omega arith in
-    (subst (λ m. Counted m ns) s c, subst (λ i. All (Leads all [] i) ns) same h)
+    (subst (λ m. Counted m ns) s c, subst (λ i. AllByRecursion (Leads all [] i) ns) same h)
 nodes_stand all [] f (l ∷ ls) n k ns s c h = absurd s
 nodes_stand all (e ∷ es) f [] n k ns s c h = absurd s
 nodes_stand all (e ∷ es) f (l ∷ ls) n k ns s c h =
@@ -120,10 +120,10 @@ nodes_stand all (e ∷ es) f (l ∷ ls) n k ns s c h =
     let next = all_through (λ x. (x.0 < f) × Leads all (l ∷ ls) k x) (Leads all ls (suc k)) l (λ x p. leads_through all ls l k e f m law x p.0 p.1) ns both in
     let same : suc k + length es ≡ k + suc (length es) = omega arith in
     let r = nodes_stand all es m ls n (suc k) (flat_map (below l) ns) s.2 (counted_through e f m l ns law c) next in
-    (r.0, subst (λ i. All (Leads all [] i) (nodes ls (flat_map (below l) ns))) same r.1)
+    (r.0, subst (λ i. AllByRecursion (Leads all [] i) (nodes ls (flat_map (below l) ns))) same r.1)
 
 -- the first node of a number has what all nodes have
-first_node : (P : Node → Type 0) (q : ℕ) (ns : List Node) → All P ns → 0 < often eqb q (numbers ns) → P (q, coordinates_to ns q)
+first_node : (P : Node → Type 0) (q : ℕ) (ns : List Node) → AllByRecursion P ns → 0 < often eqb q (numbers ns) → P (q, coordinates_to ns q)
 first_node P q [] h some = absurd (omega arith)
 first_node P q (n ∷ ns) h some = go (cases_eq n.0 q) (first_node P q ns h.1)
   where

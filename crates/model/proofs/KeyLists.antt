@@ -3,7 +3,7 @@ use Rattle.std.proofs.Common.{◌≡◌, ℕ, zero, suc, ◌+◌, ◌<◌, Bool,
 use mathlib.Core.Path.{fun_ext}
 use mathlib.Core.Bool.{false≢true}
 use mathlib.Core.List.{map-append}
-use Rattle.std.specs.List.{flat_map, AllByRecursion as All}
+use Rattle.std.specs.List.{flat_map, AllByRecursion}
 use Rattle.std.proofs.lemmas.Bool.{ne_eqb, eq-eqb, eqb-true, eqb-false, ltb-true, ltb-false, lt-ltb}
 use Rattle.std.proofs.ByRecursion.{All-append}
 use Rattle.model.specs.Semirings.{Algebra, Laws, total}
@@ -54,9 +54,9 @@ within_map extent (v ∷ vs) s h =
 -- ascending keys
 abbrev Climbing : List Key → Type 0
 Climbing [] = Unit {0}
-Climbing (k ∷ ks) = All (Before k) ks × Climbing ks
+Climbing (k ∷ ks) = AllByRecursion (Before k) ks × Climbing ks
 
-all_map : {A B : Type 0} (P : B → Type 0) (f : A → B) (xs : List A) → ((a : A) → P (f a)) → All P (map f xs)
+all_map : {A B : Type 0} (P : B → Type 0) (f : A → B) (xs : List A) → ((a : A) → P (f a)) → AllByRecursion P (map f xs)
 all_map P f [] h = tt
 all_map P f (x ∷ xs) h = (h x, all_map P f xs h)
 
@@ -67,17 +67,17 @@ block : (c : ℕ) (ks : List Key) → Climbing ks → Climbing (map (λ k. c ∷
 block c [] h = tt
 block c (k ∷ ks) h = (go ks h.0, block c ks h.1)
   where
-    go : (js : List Key) → All (Before k) js → All (Before (c ∷ k)) (map (λ j. c ∷ j) js)
+    go : (js : List Key) → AllByRecursion (Before k) js → AllByRecursion (Before (c ∷ k)) (map (λ j. c ∷ j) js)
     go [] g = tt
     go (j ∷ js) g = (behind c k j g.0, go js g.1)
 
-later : (c n e : ℕ) (k : Key) (ks : List Key) → c < n → All (Before (c ∷ k)) (flat_map (λ d. map (λ j. d ∷ j) ks) (below n e))
+later : (c n e : ℕ) (k : Key) (ks : List Key) → c < n → AllByRecursion (Before (c ∷ k)) (flat_map (λ d. map (λ j. d ∷ j) ks) (below n e))
 later c n zero k ks lt = tt
 later c n (suc e) k ks lt =
     All-append (Before (c ∷ k)) (map (λ j. n ∷ j) ks) (flat_map (λ d. map (λ j. d ∷ j) ks) (below (suc n) e))
     (all_map (Before (c ∷ k)) (λ j. n ∷ j) ks (λ j. ap (λ b. cond b true (cond (eqb c n) (before k j) false)) (lt-ltb c n lt))) (later c (suc n) e k ks (omega arith))
 
-climbing_append : (ks js : List Key) → Climbing ks → Climbing js → All (λ k. All (Before k) js) ks → Climbing (ks ++ js)
+climbing_append : (ks js : List Key) → Climbing ks → Climbing js → AllByRecursion (λ k. AllByRecursion (Before k) js) ks → Climbing (ks ++ js)
 climbing_append [] js h g a = g
 climbing_append (k ∷ ks) js h g a = (All-append (Before k) ks js h.0 a.0, climbing_append ks js h.1 g a.1)
 
@@ -85,21 +85,21 @@ blocks : (n e : ℕ) (ks : List Key) → Climbing ks → Climbing (flat_map (λ 
 blocks n zero ks h = tt
 blocks n (suc e) ks h =
     climbing_append (map (λ j. n ∷ j) ks) (flat_map (λ d. map (λ j. d ∷ j) ks) (below (suc n) e)) (block n ks h) (blocks (suc n) e ks h)
-    (all_map (λ k. All (Before k) (flat_map (λ d. map (λ j. d ∷ j) ks) (below (suc n) e))) (λ j. n ∷ j) ks (λ j. later n (suc n) e j ks (omega arith)))
+    (all_map (λ k. AllByRecursion (Before k) (flat_map (λ d. map (λ j. d ∷ j) ks) (below (suc n) e))) (λ j. n ∷ j) ks (λ j. later n (suc n) e j ks (omega arith)))
 
 keys_climb : (extent : ℕ → ℕ) (left : List ℕ) → Climbing (keys extent left)
 keys_climb extent [] = (tt, tt)
 keys_climb extent (v ∷ left) = blocks 0 (extent v) (keys extent left) (keys_climb extent left)
 
-keys_long : (extent : ℕ → ℕ) (left : List ℕ) → All (Long left) (keys extent left)
+keys_long : (extent : ℕ → ℕ) (left : List ℕ) → AllByRecursion (Long left) (keys extent left)
 keys_long extent [] = (tt, tt)
 keys_long extent (v ∷ left) = go (below 0 (extent v)) (keys_long extent left)
   where
-    one : (c : ℕ) (ks : List Key) → All (Long left) ks → All (Long (v ∷ left)) (map (λ j. c ∷ j) ks)
+    one : (c : ℕ) (ks : List Key) → AllByRecursion (Long left) ks → AllByRecursion (Long (v ∷ left)) (map (λ j. c ∷ j) ks)
     one c [] h = tt
     one c (k ∷ ks) h = (h.0, one c ks h.1)
 
-    go : (cs : List ℕ) → All (Long left) (keys extent left) → All (Long (v ∷ left)) (flat_map (λ d. map (λ j. d ∷ j) (keys extent left)) cs)
+    go : (cs : List ℕ) → AllByRecursion (Long left) (keys extent left) → AllByRecursion (Long (v ∷ left)) (flat_map (λ d. map (λ j. d ∷ j) (keys extent left)) cs)
     go [] h = tt
     go (c ∷ cs) h = All-append (Long (v ∷ left)) (map (λ j. c ∷ j) (keys extent left)) (flat_map (λ d. map (λ j. d ∷ j) (keys extent left)) cs) (one c (keys extent left) h) (go cs h)
 
@@ -123,11 +123,11 @@ module _ {V : Type 0} (K : Algebra V) (laws : Laws K) where
   tabled_climbs g [] h = tt
   tabled_climbs g (k ∷ ks) h = (go ks h.0, tabled_climbs g ks h.1)
     where
-      go : (js : List Key) → All (Before k) js → Above K laws k (tabled g js)
+      go : (js : List Key) → AllByRecursion (Before k) js → Above K laws k (tabled g js)
       go [] a = tt
       go (j ∷ js) a = (a.0, go js a.1)
 
-  tabled_long : {A : Type 0} (vs : List A) (g : Key → V) (ks : List Key) → All (Long vs) ks → Keyed K laws vs (tabled g ks)
+  tabled_long : {A : Type 0} (vs : List A) (g : Key → V) (ks : List Key) → AllByRecursion (Long vs) ks → Keyed K laws vs (tabled g ks)
   tabled_long vs g [] h = tt
   tabled_long vs g (k ∷ ks) h = (h.0, tabled_long vs g ks h.1)
 

@@ -1,6 +1,6 @@
 -- Every WRITE of a line's graph has a key for each left variable. Assumes nothing.
 use Rattle.std.proofs.Common.{ℕ, List, [], ◌∷◌, length}
-use Rattle.std.specs.List.{AllByRecursion as All}
+use Rattle.std.specs.List.{AllByRecursion}
 use Rattle.model.specs.Terms.{Term}
 use Rattle.model.specs.Reading.{line_of}
 use Rattle.model.specs.Lowering.{lower_term}
@@ -8,7 +8,7 @@ use Rattle.model.specs.Named.{KeysOf, WritesKeys}
 use Rattle.model.proofs.Pieces.{Any, each_bears}
 use Rattle.model.proofs.TermPieces.{EachCommand, term_bears}
 
-all_any : {A : Type 0} (xs : List A) → All Any xs
+all_any : {A : Type 0} (xs : List A) → AllByRecursion Any xs
 all_any [] = tt
 all_any (x ∷ xs) = (tt, all_any xs)
 

@@ -1,6 +1,6 @@
 -- What acceptance says of a line's size. Assumes nothing.
 use Rattle.std.proofs.Common.{◌≡◌, ℕ, suc, ◌+◌, ◌≤◌, true, false, ltb, List, [], ◌∷◌, ◌++◌, map, length, drop, Some, None, Option, sym, refl, ap, ◌∙◌, subst, inl, inr, arith}
-use Rattle.std.specs.List.{flat_map, AllByRecursion as All}
+use Rattle.std.specs.List.{flat_map, AllByRecursion}
 use Rattle.std.proofs.lemmas.List.{length-drop, length-map, map-append}
 use Rattle.std.proofs.ByRecursion.{All-weaker, All-map}
 use Rattle.std.proofs.lemmas.Bool.{cond-true, cond-false, cases_Bool, true≢false}
@@ -48,7 +48,7 @@ leftmost_none (Some p) (Some q) h = let z : ◌≡◌ {A = ℕ} 0 1 = cc in absu
 abbrev pub Right : Check → Type 0
 Right c = c.1 ≡ false
 
-pub all_right : (cs : List Check) → first_fault cs ≡ None → All Right cs
+pub all_right : (cs : List Check) → first_fault cs ≡ None → AllByRecursion Right cs
 all_right [] h = tt
 all_right (c ∷ cs) h =
     elim (cases_Bool c.1) [
@@ -56,24 +56,24 @@ all_right (c ∷ cs) h =
       | inr f ↦ (f, all_right cs (sym (cond-false c.1 (Some c.0) (first_fault cs) f) ∙ h))
     ]
 
-pub all_front : {A : Type 0} (P : A → Type 0) (xs ys : List A) → All P (xs ++ ys) → All P xs
+pub all_front : {A : Type 0} (P : A → Type 0) (xs ys : List A) → AllByRecursion P (xs ++ ys) → AllByRecursion P xs
 all_front P [] ys h = tt
 all_front P (x ∷ xs) ys h = (h.0, all_front P xs ys h.1)
 
-pub all_back : {A : Type 0} (P : A → Type 0) (xs ys : List A) → All P (xs ++ ys) → All P ys
+pub all_back : {A : Type 0} (P : A → Type 0) (xs ys : List A) → AllByRecursion P (xs ++ ys) → AllByRecursion P ys
 all_back P [] ys h = h
 all_back P (x ∷ xs) ys h = all_back P xs ys h.1
 
-pub all_joined : {X A : Type 0} (P : A → Type 0) (f : X → List A) (xs : List X) → All P (flat_map f xs) → All (λ x. All P (f x)) xs
+pub all_joined : {X A : Type 0} (P : A → Type 0) (f : X → List A) (xs : List X) → AllByRecursion P (flat_map f xs) → AllByRecursion (λ x. AllByRecursion P (f x)) xs
 all_joined P f [] h = tt
 all_joined P f (x ∷ xs) h = (all_front P (f x) (flat_map f xs) h, all_joined P f xs (all_back P (f x) (flat_map f xs) h))
 
-none_left : (ps : List ℕ) → All Right (map (λ p. (p, true)) ps) → length ps ≡ 0
+none_left : (ps : List ℕ) → AllByRecursion Right (map (λ p. (p, true)) ps) → length ps ≡ 0
 none_left [] h = refl
 none_left (p ∷ ps) h = absurd (true≢false h.0)
 
 -- none stands behind the nth
-pub at_most : (n : ℕ) (ps : List ℕ) → All Right (beyond n ps) → length ps ≤ n
+pub at_most : (n : ℕ) (ps : List ℕ) → AllByRecursion Right (beyond n ps) → length ps ≤ n
 at_most n ps h = let e = length-drop n ps in omega (arith, none_left (drop n ps) h)
 
 both : (p q : ℕ) (a b : Tree) → map (λ x. x.of) (accesses_from p a) ≡ accesses a → map (λ x. x.of) (accesses_from q b) ≡ accesses b → map (λ x. x.of) (accesses_from p a) ++ map (λ x. x.of) (accesses_from q b) ≡ accesses a ++ accesses b
@@ -91,7 +91,7 @@ placed_vars_length : (p : ℕ) (vs : List ℕ) → length (placed_vars p vs) ≡
 placed_vars_length p [] = refl
 placed_vars_length p (v ∷ vs) = ap suc (placed_vars_length (p + 2) vs)
 
-few_placed : (n p : ℕ) (vs : List ℕ) → All Right (beyond n (places (placed_vars p vs))) → length vs ≤ n
+few_placed : (n p : ℕ) (vs : List ℕ) → AllByRecursion Right (beyond n (places (placed_vars p vs))) → length vs ≤ n
 few_placed n p vs h =
     omega (arith, at_most n (places (placed_vars p vs)) h, length-map (placed_vars p vs) (λ (x : ℕ × ℕ). x.0), placed_vars_length p vs)
 
@@ -100,7 +100,7 @@ pub record Limited (l : Syntax) : Type 0 where
   pub reads : length (accesses l.body) ≤ 8
   pub left : length l.left ≤ 3
   pub different : length (firsts [] (all_vars l)) ≤ 4
-  pub vars : All (λ (a : Access). length a.vars ≤ 3) (accesses l.body)
+  pub vars : AllByRecursion (λ (a : Access). length a.vars ≤ 3) (accesses l.body)
 
 pub within_limits : (l : Syntax) → over_limits l ≡ None → Limited l
 within_limits l h =
@@ -119,7 +119,7 @@ within_limits l h =
       reads = omega (arith, at_most 8 (map (λ x. x.place) ps) (all_right (beyond 8 (map (λ x. x.place) ps)) a.0), length-map ps (λ x. x.place), length-map ps (λ x. x.of), ap length of_body);
       left = few_placed 3 2 l.left (all_front Right left rest c);
       different = omega (arith, at_most 4 (places (firsts [] (all_vars l))) (all_right (beyond 4 (places (firsts [] (all_vars l)))) b.0), length-map (firsts [] (all_vars l)) (λ (x : ℕ × ℕ). x.0));
-      vars = subst (All (λ x. length x.vars ≤ 3)) of_body
+      vars = subst (AllByRecursion (λ x. length x.vars ≤ 3)) of_body
           (All-map (λ (x : Access). length x.vars ≤ 3) (λ (x : PlacedAccess). x.of) ps
-          (All-weaker (λ x. All Right (beyond 3 (places (access_vars x)))) (λ x. length x.of.vars ≤ 3) (λ x g. few_placed 3 (x.place + 2) x.of.vars g) ps each));
+          (All-weaker (λ x. AllByRecursion Right (beyond 3 (places (access_vars x)))) (λ x. length x.of.vars ≤ 3) (λ x g. few_placed 3 (x.place + 2) x.of.vars g) ps each));
     }

@@ -2,7 +2,7 @@
 use Rattle.std.proofs.Common.{◌≡◌, ℕ, zero, suc, ◌+◌, ◌-◌, ◌<◌, Bool, true, false, cond, ◌||◌, eqb, List, [], ◌∷◌, map, reverse, length, get_or, sym, refl, ap, ◌∙◌, subst, ap₂, true≢false, arith}
 use mathlib.Core.Bool.{false≢true}
 use mathlib.Core.List.{map-append}
-use Rattle.std.specs.List.{flat_map, AllByRecursion as All}
+use Rattle.std.specs.List.{flat_map, AllByRecursion}
 use Rattle.std.proofs.lemmas.Bool.{eq-eqb, eqb-true}
 use Rattle.std.proofs.ByRecursion.{All-append, All-weaker, All-from_get_or}
 use Rattle.model.specs.Semirings.{Algebra, Laws, total, ZeroTest}
@@ -65,11 +65,11 @@ module _ {V : Type 0} (K : Algebra V) (laws : Laws K) where
   inserts_good vs [] t l ls h = (h, ls)
   inserts_good vs (e ∷ es) t l ls h = inserts_good vs es (insert K e.0 e.1 t) l.1 (keyed_insert vs e.0 e.1 t l.0 ls) (climbs_insert vs e.0 e.1 t l.0 ls h)
 
-all_joined : {A B : Type 0} (P : B → Type 0) (g : A → List B) → ((a : A) → All P (g a)) → (xs : List A) → All P (flat_map g xs)
+all_joined : {A B : Type 0} (P : B → Type 0) (g : A → List B) → ((a : A) → AllByRecursion P (g a)) → (xs : List A) → AllByRecursion P (flat_map g xs)
 all_joined P g h [] = tt
 all_joined P g h (x ∷ xs) = All-append P (g x) (flat_map g xs) (h x) (all_joined P g h xs)
 
-all_gathered : {A B : Type 0} (P : B → Type 0) (g : A → List B) → ((a : A) → All P (g a)) → (d : ℕ) (t : Tree A d) → All P (gathered g d t)
+all_gathered : {A B : Type 0} (P : B → Type 0) (g : A → List B) → ((a : A) → AllByRecursion P (g a)) → (d : ℕ) (t : Tree A d) → AllByRecursion P (gathered g d t)
 all_gathered P g h zero t = h t
 all_gathered P g h (suc d) t = all_gathered P (flat_map g) (all_joined P g h) d t
 
@@ -108,7 +108,7 @@ module _ {V : Type 0} (K : Algebra V) (laws : Laws K) (T : ℕ → Storage V) (e
         go s lts true q = absurd (true≢false (sym (ap (within extent left) (sym (same_is (map s left) k q)) ∙ within_map extent left s (λ w h. lts w (in_kept (λ v. occurs t.accesses v t.body) loop_order w (fit.lefts w h) (fit.orders w (fit.lefts w h))))) ∙ no_k))
         go s lts false q = refl
 
-    terms_add : (ts : List Term) → All (FitTerm K T extent dense left loop_order) ts → (k : Key) (b : Bool) → within extent left k ≡ b
+    terms_add : (ts : List Term) → AllByRecursion (FitTerm K T extent dense left loop_order) ts → (k : Key) (b : Bool) → within extent left k ≡ b
         → look K laws k (flat_map new ts) ≡ cond b (total K (map (bag_sum K extent dense left k) (flat_map (λ t. bags t.accesses t.body) ts))) K.zero
     terms_add [] fit k true e = refl
     terms_add [] fit k false e = refl
@@ -137,7 +137,7 @@ module _ {V : Type 0} (K : Algebra V) (T : ℕ → Storage V) (extent : ℕ → 
             (has_reverse (variables loop_order t) w ∙ in_kept (λ v. occurs t.accesses v t.body) loop_order w (fit.lefts w h) (fit.orders w (fit.lefts w h)));
       }
 
-  all_writable : (l : Line) → FitLine K T extent dense l → All (Writable K T l.left l.order) l.terms
+  all_writable : (l : Line) → FitLine K T extent dense l → AllByRecursion (Writable K T l.left l.order) l.terms
   all_writable l fit = All-weaker (FitTerm K T extent dense l.left l.order) (Writable K T l.left l.order) (writable l.left l.order) l.terms fit.each
 
   -- every command of the graph of a line that fits, at its turn, fits the streams made before it

@@ -1,7 +1,7 @@
 -- The variables that a list has. Assumes nothing.
 use Rattle.std.proofs.Common.{◌≡◌, ℕ, suc, ◌+◌, ◌<◌, ◌≤◌, Bool, true, false, ◌||◌, eqb, List, [], ◌∷◌, ◌++◌, reverse, length, sym, refl, ap, ◌∙◌, subst, inl, inr, arith}
 use mathlib.Core.List.{reverse-cons}
-use Rattle.std.specs.List.{AllByRecursion as All}
+use Rattle.std.specs.List.{AllByRecursion}
 use Rattle.std.proofs.lemmas.Bool.{cond_both, false≢true, or_cases, or_left, or_right, or_parts, both_ways, eqb-true, eq-eqb}
 use Rattle.model.specs.Tensors.{has}
 use Rattle.model.specs.Terms.{kept}
@@ -9,7 +9,7 @@ use Rattle.model.specs.Lowering.{place}
 
 -- xs has each of ys
 abbrev pub Among : List ℕ → List ℕ → Type 0
-Among xs ys = All (λ y. has xs y ≡ true) ys
+Among xs ys = AllByRecursion (λ y. has xs y ≡ true) ys
 
 pub or_assoc : (a b c : Bool) → ((a || b) || c) ≡ (a || (b || c))
 or_assoc true b c = refl

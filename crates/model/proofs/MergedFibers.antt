@@ -1,6 +1,6 @@
 -- Merged coordinates ascend and are below the extent. Assumes nothing.
 use Rattle.std.proofs.Common.{◌≡◌, ℕ, ◌<◌, Bool, true, false, cond, List, [], ◌∷◌, Option, sym, refl, subst}
-use Rattle.std.specs.List.{AllByRecursion as All}
+use Rattle.std.specs.List.{AllByRecursion}
 use Rattle.model.specs.Semirings.{Algebra, Laws}
 use Rattle.model.specs.Fibers.{coords, fiber_at}
 use Rattle.model.specs.Tensors.{Storage, has}
@@ -15,11 +15,11 @@ use Rattle.model.proofs.PathTrees.{leaf_coords, node}
 use Rattle.model.proofs.PathSums.{MergesWell}
 use Rattle.model.proofs.DeadPaths.{point}
 
-folds_good : (e : ℕ) (f : List ℕ → List ℕ → List ℕ) → ((a b : List ℕ) → Good e a → Good e b → Good e (f a b)) → (a : List ℕ) (ls : List (List ℕ)) → Good e a → All (Good e) ls → Good e (folds f a ls)
+folds_good : (e : ℕ) (f : List ℕ → List ℕ → List ℕ) → ((a b : List ℕ) → Good e a → Good e b → Good e (f a b)) → (a : List ℕ) (ls : List (List ℕ)) → Good e a → AllByRecursion (Good e) ls → Good e (folds f a ls)
 folds_good e f keeps a [] g h = g
 folds_good e f keeps a (b ∷ ls) g h = folds_good e f keeps (f a b) ls (keeps a b g h.0) h.1
 
-fold_good : (e : ℕ) (f : List ℕ → List ℕ → List ℕ) → ((a b : List ℕ) → Good e a → Good e b → Good e (f a b)) → (ls : List (List ℕ)) → All (Good e) ls → Good e (fold_of [] f ls)
+fold_good : (e : ℕ) (f : List ℕ → List ℕ → List ℕ) → ((a b : List ℕ) → Good e a → Good e b → Good e (f a b)) → (ls : List (List ℕ)) → AllByRecursion (Good e) ls → Good e (fold_of [] f ls)
 fold_good e f keeps [] h = (tt, tt)
 fold_good e f keeps (a ∷ ls) h = folds_good e f keeps a ls h.0 h.1
 
@@ -36,7 +36,7 @@ module _ (acs : List Access) (v e : ℕ) (F : ℕ → List ℕ) (fits : (i : ℕ
   joins : (a b : List ℕ) → Good e a → Good e b → Good e (in_either a b)
   joins a b g h = (ascends_either a b h.0, all_either (λ c. c < e) a b g.1 h.1)
 
-  one : (x : Expr) (b : Bool) (ls ms : List (List ℕ)) → (b ≡ true → Good e (L x)) → All (Good e) ls → All (Good e) ms → All (Good e) (cond b (L x ∷ ls) ms)
+  one : (x : Expr) (b : Bool) (ls ms : List (List ℕ)) → (b ≡ true → Good e (L x)) → AllByRecursion (Good e) ls → AllByRecursion (Good e) ms → AllByRecursion (Good e) (cond b (L x ∷ ls) ms)
   one x true ls ms g h k = (g refl, h)
   one x false ls ms g h k = k
 
@@ -46,14 +46,14 @@ module _ (acs : List Access) (v e : ℕ) (F : ℕ → List ℕ) (fits : (i : ℕ
     good (product ps) o = fold_good e in_both meets (Ls ps) (goods ps)
     good (sum ps) o = fold_good e in_either joins (Ls ps) (goods ps)
 
-    goods : (ps : Parts) → All (Good e) (Ls ps)
+    goods : (ps : Parts) → AllByRecursion (Good e) (Ls ps)
     goods (last x) = one x (occurs acs v x) [] [] (λ o. good x o) tt tt
     goods (more x ps) = let rest = goods ps in one x (occurs acs v x) (Ls ps) (Ls ps) (λ o. good x o) rest rest
 
 module _ {V : Type 0} (K : Algebra V) (laws : Laws K) (T : ℕ → Storage V) (acs : List Access) (body : Expr) (extent : ℕ → ℕ) where
   pub merges_well :
       ((i v : ℕ) → has (nth_access acs i).vars v ≡ true → (r : Option ℕ) → Good (extent v) (coords (fiber_at (nth_level T (nth_access acs i).slot (place (nth_access acs i).vars v)) r)))
-      → (vs : List ℕ) → All (λ v. occurs acs v body ≡ true) vs → MergesWell K laws T acs body extent vs
+      → (vs : List ℕ) → AllByRecursion (λ v. occurs acs v body ≡ true) vs → MergesWell K laws T acs body extent vs
   merges_well fits [] o = tt
   merges_well fits (v ∷ vs) o = (
     λ p. subst (Good (extent v)) (sym (point in_both in_either [] (occurs acs v) (leaf_coords K T acs body v vs) p body))

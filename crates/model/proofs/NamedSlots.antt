@@ -1,6 +1,6 @@
 -- The commands of an accepted line's graph name filled slots, and levels that their tensors have. Assumes nothing.
 use Rattle.std.proofs.Common.{◌≡◌, ℕ, ◌<◌, true, List, length, IfNone, Some, None, Option, arith, MatchOption}
-use Rattle.std.specs.List.{AllByRecursion as All}
+use Rattle.std.specs.List.{AllByRecursion}
 use Rattle.std.proofs.ByRecursion.{All-map, All-weaker}
 use Rattle.std.proofs.lemmas.Bool.{eqb-true, false≢true}
 use Rattle.model.specs.Terms.{Access, Term}
@@ -47,5 +47,5 @@ pub named : Named
 named slots l formed h =
     let us = terms_from (body_place l) l.body in
     let held = All-weaker (Sound slots l) (Held slots) (λ a s. s.filled) (accesses l.body) (sound slots l (clean slots l h)) in
-    (each_bears (NamesHeld slots) (λ (t : Term). All (Held slots) t.accesses) Any (lower_term l.left l.order) (term_bears (NamesHeld slots) (Held slots) l.left (names_held slots l.left) l.order) (line_of l).terms
-    (All-map (λ (t : Term). All (Held slots) t.accesses) term_of us (all_terms (Held slots) (body_place l) l.body held)) 0).0
+    (each_bears (NamesHeld slots) (λ (t : Term). AllByRecursion (Held slots) t.accesses) Any (lower_term l.left l.order) (term_bears (NamesHeld slots) (Held slots) l.left (names_held slots l.left) l.order) (line_of l).terms
+    (All-map (λ (t : Term). AllByRecursion (Held slots) t.accesses) term_of us (all_terms (Held slots) (body_place l) l.body held)) 0).0

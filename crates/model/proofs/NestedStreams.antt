@@ -2,7 +2,7 @@
 use Rattle.std.proofs.Common.{◌≡◌, ℕ, suc, ◌+◌, ◌<◌, ◌≤◌, Bool, true, false, ◌||◌, eqb, List, [], ◌∷◌, map, reverse, length, sym, refl, ap, ◌∙◌, subst, arith}
 use mathlib.Core.List.{reverse_aux}
 use lib.ListN.{length-reverse}
-use Rattle.std.specs.List.{AllByRecursion as All}
+use Rattle.std.specs.List.{AllByRecursion}
 use Rattle.std.proofs.lemmas.Bool.{eq-eqb}
 use Rattle.model.specs.Semirings.{Algebra}
 use Rattle.model.specs.Tensors.{Storage, has}
@@ -29,7 +29,7 @@ or_right : (a : Bool) → (a || true) ≡ true
 or_right true = refl
 or_right false = refl
 
-all_images : (P : ℕ → Type 0) (f : ℕ → ℕ) (xs : List ℕ) → ((w : ℕ) → has xs w ≡ true → P (f w)) → All P (map f xs)
+all_images : (P : ℕ → Type 0) (f : ℕ → ℕ) (xs : List ℕ) → ((w : ℕ) → has xs w ≡ true → P (f w)) → AllByRecursion P (map f xs)
 all_images P f [] h = tt
 all_images P f (x ∷ xs) h =
     (h x (ap (λ b. b || has xs x) (eq-eqb x x refl)), all_images P f xs (λ w e. h w (ap (λ b. eqb x w || b) e ∙ or_right (eqb x w))))

@@ -1,6 +1,6 @@
 -- How often numbers stand in a list; where each below n stands once, and no other, the list has the length n. Assumes nothing.
 use Rattle.std.proofs.Common.{◌≡◌, ℕ, zero, suc, ◌+◌, ◌<◌, cond, eqb, ◌⊎◌, List, [], ◌∷◌, ◌++◌, map, length, get_or, sym, refl, ap, ◌∙◌, inl, inr, arith}
-use Rattle.std.specs.List.{AllByRecursion as All}
+use Rattle.std.specs.List.{AllByRecursion}
 use Rattle.std.proofs.ByRecursion.{All-map, All-from_get_or}
 use Rattle.std.proofs.lemmas.Bool.{cases_eq, eq-eqb, ne_eqb}
 use Rattle.model.specs.Fibers.{Fiber}
@@ -17,7 +17,7 @@ pub often_append : (j : ℕ) (xs ys : List ℕ) → often eqb j (xs ++ ys) ≡ o
 often_append j [] ys = omega arith
 often_append j (x ∷ xs) ys = let h = often_append j xs ys in omega arith
 
-pub often_none : (j : ℕ) (xs : List ℕ) → All (λ x. x ≡ j → ⊥) xs → often eqb j xs ≡ 0
+pub often_none : (j : ℕ) (xs : List ℕ) → AllByRecursion (λ x. x ≡ j → ⊥) xs → often eqb j xs ≡ 0
 often_none j [] h = refl
 often_none j (x ∷ xs) h = let here = none_here j x h.0 in let rest = often_none j xs h.1 in omega arith
 
@@ -69,7 +69,7 @@ total_at x (suc n) h = go (cases_eq x n) (total_at x n)
         omega arith
     go (inr e) later = let here = none_here n x e in let rest = later (omega arith) in omega arith
 
-total_often : (n : ℕ) (xs : List ℕ) → All (λ x. x < n) xs → total (λ j. often eqb j xs) n ≡ length xs
+total_often : (n : ℕ) (xs : List ℕ) → AllByRecursion (λ x. x < n) xs → total (λ j. often eqb j xs) n ≡ length xs
 total_often n [] h = total_none (λ j. 0) n (λ j k. refl)
 total_often n (x ∷ xs) h =
     let parts = total_sum (λ j. cond (eqb j x) 1 0) (λ j. often eqb j xs) n in
@@ -77,5 +77,5 @@ total_often n (x ∷ xs) h =
     let rest = total_often n xs h.1 in
     omega arith
 
-pub length_once : (n : ℕ) (xs : List ℕ) → All (λ x. x < n) xs → ((j : ℕ) → j < n → often eqb j xs ≡ 1) → length xs ≡ n
+pub length_once : (n : ℕ) (xs : List ℕ) → AllByRecursion (λ x. x < n) xs → ((j : ℕ) → j < n → often eqb j xs ≡ 1) → length xs ≡ n
 length_once n xs below once = sym (total_often n xs below) ∙ total_ones (λ j. often eqb j xs) n once

@@ -1,6 +1,6 @@
 -- A text is that of one line only: ";" and "=" stand nowhere else, so they cut it. Assumes nothing.
 use Rattle.std.proofs.Common.{◌≡◌, ℕ, ◌<◌, true, ◌&&◌, leb, List, [], ◌∷◌, ◌++◌, refl, ap, arith}
-use Rattle.std.specs.List.{AllByRecursion as All}
+use Rattle.std.specs.List.{AllByRecursion}
 use Rattle.std.proofs.ByRecursion.{All-append}
 use Rattle.std.proofs.lemmas.Bool.{and_parts, leb-true}
 use Rattle.model.specs.Grammar.{Tree, access, group, times, plus, Syntax, commas, names, args, text, Vars, Grammatical, OneLine}
@@ -13,21 +13,21 @@ Inner b = (b ≡ 59 → ⊥) × (b ≡ 61 → ⊥)
 inner_from : (low b high : ℕ) → 61 < low → (leb low b && leb b high) ≡ true → Inner b
 inner_from low b high h e = let at = leb-true low b (and_parts (leb low b) (leb b high) e).0 in (λ x. omega arith, λ x. omega arith)
 
-inner_commas : (vs : List ℕ) → Vars vs → All Inner (commas vs)
+inner_commas : (vs : List ℕ) → Vars vs → AllByRecursion Inner (commas vs)
 inner_commas [] g = tt
 inner_commas (v ∷ vs) g = ((λ e. omega arith, λ e. omega arith), (inner_from 97 v 122 (omega arith) g.0, inner_commas vs g.1))
 
-inner_names : (vs : List ℕ) → Vars vs → All Inner (names vs)
+inner_names : (vs : List ℕ) → Vars vs → AllByRecursion Inner (names vs)
 inner_names [] g = tt
 inner_names (v ∷ vs) g = (inner_from 97 v 122 (omega arith) g.0, inner_commas vs g.1)
 
-inner_closed : (bs : List ℕ) → All Inner bs → All Inner ((40 ∷ bs) ++ (41 ∷ []))
+inner_closed : (bs : List ℕ) → AllByRecursion Inner bs → AllByRecursion Inner ((40 ∷ bs) ++ (41 ∷ []))
 inner_closed bs h = All-append Inner (40 ∷ bs) (41 ∷ []) ((λ e. omega arith, λ e. omega arith), h) ((λ e. omega arith, λ e. omega arith), tt)
 
-pub inner_args : (vs : List ℕ) → Vars vs → All Inner (args vs)
+pub inner_args : (vs : List ℕ) → Vars vs → AllByRecursion Inner (args vs)
 inner_args vs g = inner_closed (names vs) (inner_names vs g)
 
-pub inner_text : (t : Tree) → Grammatical t → All Inner (text t)
+pub inner_text : (t : Tree) → Grammatical t → AllByRecursion Inner (text t)
 inner_text (access l vs) g = (inner_from 65 l 72 (omega arith) g.0, inner_args vs g.1)
 inner_text (group t) g = inner_closed (text t) (inner_text t g)
 inner_text (times a b) g = All-append Inner (text a) (42 ∷ text b) (inner_text a g.0) ((λ e. omega arith, λ e. omega arith), inner_text b g.2)
@@ -38,7 +38,7 @@ record SameParts (v w v_rest w_rest : List ℕ) : Type 0 where
   front : v ≡ w
   rest : v_rest ≡ w_rest
 
-cut : (b : ℕ) (P : ℕ → Type 0) → (P b → ⊥) → (v w x y : List ℕ) → All P v → All P w → v ++ (b ∷ x) ≡ w ++ (b ∷ y) → SameParts v w x y
+cut : (b : ℕ) (P : ℕ → Type 0) → (P b → ⊥) → (v w x y : List ℕ) → AllByRecursion P v → AllByRecursion P w → v ++ (b ∷ x) ≡ w ++ (b ∷ y) → SameParts v w x y
 cut b P out [] [] x y g h e = record { front = refl; rest = cc }
 cut b P out [] (d ∷ w) x y g h e = let at : b ≡ d = cc in absurd (out (rw at h.0))
 cut b P out (c ∷ v) [] x y g h e = let at : c ≡ b = cc in absurd (out (rw (← at) g.0))

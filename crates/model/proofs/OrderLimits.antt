@@ -1,6 +1,6 @@
 -- The loop order of an accepted line has 4 variables at most. Assumes nothing.
 use Rattle.std.proofs.Common.{◌≡◌, ℕ, suc, ◌+◌, ◌≤◌, Bool, true, false, cond, not, ◌||◌, eqb, List, [], ◌∷◌, ◌++◌, length, None, sym, refl, ap, ◌∙◌, subst, inl, inr, arith}
-use Rattle.std.specs.List.{flat_map, AllByRecursion as All}
+use Rattle.std.specs.List.{flat_map, AllByRecursion}
 use Rattle.std.proofs.lemmas.List.{append_assoc}
 use Rattle.std.proofs.lemmas.Bool.{cond_both, cases_Bool, or_parts, or_from, eqb-true, eqb-false, ne_eqb}
 use Rattle.model.specs.Tensors.{has}
@@ -14,16 +14,16 @@ use Rattle.model.proofs.Limits.{Right, all_right, all_front, within_limits}
 eqb_other : (a b : ℕ) → eqb a b ≡ false → eqb b a ≡ false
 eqb_other a b h = ne_eqb b a (λ e. eqb-false a b h (sym e))
 
-lacks : (v : ℕ) (seen vs : List ℕ) → All (λ w. has (v ∷ seen) w ≡ false) vs → has vs v ≡ false
+lacks : (v : ℕ) (seen vs : List ℕ) → AllByRecursion (λ w. has (v ∷ seen) w ≡ false) vs → has vs v ≡ false
 lacks v seen [] h = refl
 lacks v seen (w ∷ vs) h = or_from (eqb w v) (has vs v) (eqb_other v w (or_parts (eqb v w) (has seen w) h.0).0) (lacks v seen vs h.1)
 
-others : (v : ℕ) (seen vs : List ℕ) → All (λ w. has (v ∷ seen) w ≡ false) vs → All (λ w. has seen w ≡ false) vs
+others : (v : ℕ) (seen vs : List ℕ) → AllByRecursion (λ w. has (v ∷ seen) w ≡ false) vs → AllByRecursion (λ w. has seen w ≡ false) vs
 others v seen [] h = tt
 others v seen (w ∷ vs) h = ((or_parts (eqb v w) (has seen w) h.0).1, others v seen vs h.1)
 
 -- a checked order repeats nothing
-unseen : (used seen : List ℕ) (p : ℕ) (vs : List ℕ) → All Right (order_checks used seen (placed_vars p vs)) → All (λ v. has seen v ≡ false) vs × Distinct vs
+unseen : (used seen : List ℕ) (p : ℕ) (vs : List ℕ) → AllByRecursion Right (order_checks used seen (placed_vars p vs)) → AllByRecursion (λ v. has seen v ≡ false) vs × Distinct vs
 unseen used seen p [] h = (tt, tt)
 unseen used seen p (v ∷ vs) h =
     let new = (or_parts (has seen v) (not (has used v)) h.0).0 in

@@ -1,7 +1,7 @@
 -- What an access holds at a path, and which merged coordinates there are. Assumes nothing.
 use Rattle.std.proofs.Common.{◌≡◌, ℕ, suc, ◌+◌, Bool, true, false, cond, ◌||◌, eqb, List, [], ◌∷◌, ◌++◌, map, reverse, length, get_or, Some, None, Option, sym, refl, ap, ◌∙◌, ap₂, inl, inr, true≢false, append_assoc, append-nil, arith}
 use mathlib.Core.List.{map-append, reverse-cons}
-use Rattle.std.specs.List.{AllByRecursion as All}
+use Rattle.std.specs.List.{AllByRecursion}
 use Rattle.std.proofs.lemmas.Bool.{eq-eqb}
 use Rattle.model.specs.Semirings.{Algebra, Laws}
 use Rattle.model.specs.Fibers.{Fiber, Level, coords, child, fiber_at}
@@ -98,7 +98,7 @@ module _ {V : Type 0} (K : Algebra V) (T : ℕ → Storage V) (acs : List Access
       go true = ap (λ r. child (fiber_at (nth_level T a.slot (place a.vars v)) r) c) e
       go false = e
 
-  pub dead_value : (laws : Laws K) (extent : ℕ → ℕ) (ws : List ℕ) (q : LeafPath) → ((v : ℕ) → Even acs v body) → All (λ v. occurs acs v body ≡ true) ws → Dead K laws T acs body extent ws q → value_of K T acs body ws q ≡ K.zero
+  pub dead_value : (laws : Laws K) (extent : ℕ → ℕ) (ws : List ℕ) (q : LeafPath) → ((v : ℕ) → Even acs v body) → AllByRecursion (λ v. occurs acs v body ≡ true) ws → Dead K laws T acs body extent ws q → value_of K T acs body ws q ≡ K.zero
   dead_value laws extent ws q even occur d =
       let (v, vs, c, p, o, h, lost) = where_dead ws q occur d in
       point K.product K.sum K.zero (λ e. true) (λ i. load_of K T acs body ws (nth_access acs i)) q body
@@ -109,7 +109,7 @@ module _ {V : Type 0} (K : Algebra V) (T : ℕ → Storage V) (acs : List Access
       )
       body (even v) o (sym (ap (λ l. has l c) (point in_both in_either [] (occurs acs v) (leaf_coords K T acs body v vs) p body)) ∙ h)
     where
-      where_dead : (us : List ℕ) (r : LeafPath) → All (λ v. occurs acs v body ≡ true) us → Dead K laws T acs body extent us r
+      where_dead : (us : List ℕ) (r : LeafPath) → AllByRecursion (λ v. occurs acs v body ≡ true) us → Dead K laws T acs body extent us r
           → (v : ℕ) × (vs : List ℕ) × (c : ℕ) × (p : LeafPath) × (occurs acs v body ≡ true) × (has (live K T acs body v vs p) c ≡ false)
           × ((a : Access) → node K T acs body a (v ∷ vs) (c ∷ p) ≡ None → node K T acs body a us r ≡ None)
       where_dead [] r o d1 = absurd d1

@@ -2,7 +2,7 @@
 use Rattle.std.proofs.Common.{◌≡◌, ℕ, zero, suc, ◌<◌, false, cond, ◌⊎◌, List, [], ◌∷◌, ◌++◌, map, length, refl, ap, ◌∙◌, inl, inr}
 use mathlib.Core.Path.{fun_ext}
 use mathlib.Core.List.{map-map, map-append}
-use Rattle.std.specs.List.{flat_map, AllByRecursion as All}
+use Rattle.std.specs.List.{flat_map, AllByRecursion}
 use Rattle.model.specs.Semirings.{Algebra, Laws, total}
 use Rattle.model.specs.Fibers.{Ascends}
 use Rattle.model.specs.Tensors.{Storage, has, same}
@@ -73,7 +73,7 @@ module _ {V : Type 0} (K : Algebra V) (laws : Laws K) (T : ℕ → Storage V) (a
   -- merged coordinates ascend, below the extent
   abbrev pub MergesWell : List ℕ → Type 0
   MergesWell [] = Unit {0}
-  MergesWell (v ∷ vs) = ((p : LeafPath) → Ascends (live K T acs body v vs p) × All (λ c. c < extent v) (live K T acs body v vs p)) × MergesWell vs
+  MergesWell (v ∷ vs) = ((p : LeafPath) → Ascends (live K T acs body v vs p) × AllByRecursion (λ c. c < extent v) (live K T acs body v vs p)) × MergesWell vs
 
   -- the sum over the paths is the sum over all coordinates, where dead paths are zero
   pub paths_all : (vs : List ℕ) (f : LeafPath → V) → MergesWell vs → ((p : LeafPath) → length p ≡ length vs → Dead vs p → f p ≡ K.zero) → over_paths vs f ≡ over_all vs f

@@ -1,6 +1,6 @@
 -- Commands that fit make streams of small payloads and small depths. Assumes nothing.
 use Rattle.std.proofs.Common.{◌≡◌, ℕ, zero, suc, ◌+◌, ◌<◌, Bool, true, false, cond, eqb, List, [], ◌∷◌, ◌++◌, map, length, get_or, Some, None, Option, sym, ap, subst, arith, length-append}
-use Rattle.std.specs.List.{AllByRecursion as All}
+use Rattle.std.specs.List.{AllByRecursion}
 use Rattle.std.proofs.ByRecursion.{All-append, All-get_or, All-weaker}
 use Rattle.model.specs.Semirings.{Algebra, zipped}
 use Rattle.model.specs.Fibers.{fiber_at}
@@ -15,15 +15,15 @@ use Rattle.model.specs.Payloads.{depth_of, ReferenceBelow, PayloadsBelow, Levels
 use Rattle.model.proofs.MergedLists.{all_both, all_either}
 
 -- every leaf of an image, and of two trees side by side
-all_images : {A B : Type 0} (P : A → Type 0) (Q : B → Type 0) (f : A → B) → ((a : A) → P a → Q (f a)) → (xs : List A) → All P xs → All Q (map f xs)
+all_images : {A B : Type 0} (P : A → Type 0) (Q : B → Type 0) (f : A → B) → ((a : A) → P a → Q (f a)) → (xs : List A) → AllByRecursion P xs → AllByRecursion Q (map f xs)
 all_images P Q f h [] k = tt
 all_images P Q f h (x ∷ xs) k = (h x k.0, all_images P Q f h xs k.1)
 
 every_image : {A B : Type 0} (P : A → Type 0) (Q : B → Type 0) (f : A → B) → ((a : A) → P a → Q (f a)) → (d : ℕ) (t : Tree A d) → Every P d t → Every Q d (each f d t)
 every_image P Q f h zero t k = h t k
-every_image P Q f h (suc d) t k = every_image (All P) (All Q) (map f) (all_images P Q f h) d t k
+every_image P Q f h (suc d) t k = every_image (AllByRecursion P) (AllByRecursion Q) (map f) (all_images P Q f h) d t k
 
-all_zipped : {A B C : Type 0} (P : A → Type 0) (Q : B → Type 0) (R : C → Type 0) (f : A → B → C) → ((a : A) (b : B) → P a → Q b → R (f a b)) → (xs : List A) (ys : List B) → All P xs → All Q ys → All R (zipped f xs ys)
+all_zipped : {A B C : Type 0} (P : A → Type 0) (Q : B → Type 0) (R : C → Type 0) (f : A → B → C) → ((a : A) (b : B) → P a → Q b → R (f a b)) → (xs : List A) (ys : List B) → AllByRecursion P xs → AllByRecursion Q ys → AllByRecursion R (zipped f xs ys)
 all_zipped P Q R f h [] ys p q = tt
 all_zipped P Q R f h (x ∷ xs) [] p q = tt
 all_zipped P Q R f h (x ∷ xs) (y ∷ ys) p q = (h x y p.0 q.0, all_zipped P Q R f h xs ys p.1 q.1)
@@ -33,10 +33,10 @@ every_beside :
     → (d e : ℕ) (t : Tree A d) (u : Tree B e) → Every P d t → Every Q e u → Every R d (beside f o d e t u)
 every_beside P Q R f o r h zero zero t u p q = h t u p q
 every_beside P Q R f o r h zero (suc e) t u p q = r
-every_beside P Q R f o r h (suc d) zero t u p q = every_image (All P) (All R) (λ xs. []) (λ xs k. tt) d t p
-every_beside P Q R f o r h (suc d) (suc e) t u p q = every_beside (All P) (All Q) (All R) (zipped f) [] tt (all_zipped P Q R f h) d e t u p q
+every_beside P Q R f o r h (suc d) zero t u p q = every_image (AllByRecursion P) (AllByRecursion R) (λ xs. []) (λ xs k. tt) d t p
+every_beside P Q R f o r h (suc d) (suc e) t u p q = every_beside (AllByRecursion P) (AllByRecursion Q) (AllByRecursion R) (zipped f) [] tt (all_zipped P Q R f h) d e t u p q
 
-all_getd_or : {A : Type 0} (P : A → Type 0) (xs : List A) (n : ℕ) (o : A) → P o → All P xs → P (get_or xs n o)
+all_getd_or : {A : Type 0} (P : A → Type 0) (xs : List A) (n : ℕ) (o : A) → P o → AllByRecursion P xs → P (get_or xs n o)
 all_getd_or P [] n o p h = p
 all_getd_or P (x ∷ xs) zero o p h = h.0
 all_getd_or P (x ∷ xs) (suc n) o p h = all_getd_or P xs n o p h.1
@@ -48,15 +48,15 @@ Any xs = Unit {0}
 abbrev Any1 : ℕ → Type 0
 Any1 x = Unit {0}
 
-all_any : (xs : List ℕ) → All Any1 xs
+all_any : (xs : List ℕ) → AllByRecursion Any1 xs
 all_any [] = tt
 all_any (x ∷ xs) = (tt, all_any xs)
 
 every_when : {A : Type 0} (P : A → Type 0) → ((a : A) → P a) → (d : ℕ) (t : Tree A d) → Every P d t
 every_when P h zero t = h t
-every_when P h (suc d) t = every_when (All P) (all_when P h) d t
+every_when P h (suc d) t = every_when (AllByRecursion P) (all_when P h) d t
   where
-    all_when : {A : Type 0} (P : A → Type 0) → ((a : A) → P a) → (xs : List A) → All P xs
+    all_when : {A : Type 0} (P : A → Type 0) → ((a : A) → P a) → (xs : List A) → AllByRecursion P xs
     all_when P h [] = tt
     all_when P h (x ∷ xs) = (h x, all_when P h xs)
 
@@ -65,10 +65,10 @@ every_any d t = every_when Any (λ xs. tt) d t
 
 module _ {V : Type 0} (K : Algebra V) (T : ℕ → Storage V) (b : ℕ) (some : 0 < b) (levels : LevelsBelow b T) where
   abbrev Low : List ℕ → Type 0
-  Low xs = All (λ c. c < b) xs
+  Low xs = AllByRecursion (λ c. c < b) xs
 
   abbrev LowRefs : List (Option ℕ) → Type 0
-  LowRefs rs = All (ReferenceBelow b) rs
+  LowRefs rs = AllByRecursion (ReferenceBelow b) rs
 
   fibers_low : (s : Stream V) → PayloadsBelow b s → Every Low (coordinate_fibers s).0 (coordinate_fibers s).1
   fibers_low (coordinates zero t) h = tt
@@ -87,8 +87,8 @@ module _ {V : Type 0} (K : Algebra V) (T : ℕ → Storage V) (b : ℕ) (some : 
   references_low (references d t) h = h
   references_low (values d t) h = tt
 
-  fiber_low : (slot l : ℕ) (r : Option ℕ) → All (λ x. (x.0 < b) × (x.1 < b)) (fiber_at (nth_level T slot l) r)
-  fiber_low slot l (Some p) = all_getd_or (All (λ x. (x.0 < b) × (x.1 < b))) (nth_level T slot l) p [] tt (levels slot l)
+  fiber_low : (slot l : ℕ) (r : Option ℕ) → AllByRecursion (λ x. (x.0 < b) × (x.1 < b)) (fiber_at (nth_level T slot l) r)
+  fiber_low slot l (Some p) = all_getd_or (AllByRecursion (λ x. (x.0 < b) × (x.1 < b))) (nth_level T slot l) p [] tt (levels slot l)
   fiber_low slot l None = tt
 
   standing_low : (xs : List ℕ) (rs : List (Option ℕ)) (c : ℕ) → LowRefs rs → ReferenceBelow b (standing xs rs c)
@@ -120,10 +120,10 @@ module _ {V : Type 0} (K : Algebra V) (T : ℕ → Storage V) (b : ℕ) (some : 
       (λ fiber x _ low. all_images Any1 (ReferenceBelow b) (λ c. x) (λ c _. low) fiber (all_any fiber))
       (coordinate_fibers z).0 (reference_tree r).0 (coordinate_fibers z).1 (reference_tree r).1 (every_any (coordinate_fibers z).0 (coordinate_fibers z).1) (references_low r h)
 
-  nth_low : (ss : List (Stream V)) → All (PayloadsBelow b) ss → (n : ℕ) → PayloadsBelow b (nth_stream ss n)
+  nth_low : (ss : List (Stream V)) → AllByRecursion (PayloadsBelow b) ss → (n : ℕ) → PayloadsBelow b (nth_stream ss n)
   nth_low ss h n = all_getd_or (PayloadsBelow b) ss n (references 0 None) tt h
 
-  outputs_low : (c : Command) (ss : List (Stream V)) → All (PayloadsBelow b) ss → All (PayloadsBelow b) (outputs K T c ss)
+  outputs_low : (c : Command) (ss : List (Stream V)) → AllByRecursion (PayloadsBelow b) ss → AllByRecursion (PayloadsBelow b) (outputs K T c ss)
   outputs_low (ROOT out) ss h = (some, tt)
   outputs_low (SCAN t l r c k) ss h =
       let s = nth_stream ss r in
@@ -149,10 +149,10 @@ module _ {V : Type 0} (K : Algebra V) (T : ℕ → Storage V) where
   abbrev Shallow : ℕ → Stream V → Type 0
   Shallow n s = depth_of s < n
 
-  made_depth : (ss : List (Stream V)) (n : ℕ) (s : Stream V) → Made ss n s → All (Shallow (length ss)) ss → depth_of s < length ss
+  made_depth : (ss : List (Stream V)) (n : ℕ) (s : Stream V) → Made ss n s → AllByRecursion (Shallow (length ss)) ss → depth_of s < length ss
   made_depth ss n s m h = subst (λ x. depth_of x < length ss) m.1 (All-get_or (Shallow (length ss)) ss n (references 0 None) m.0 h)
 
-  outputs_shallow : (c : Command) (ss : List (Stream V)) → Fits c ss → All (Shallow (length ss)) ss → All (Shallow (length ss + length (outputs K T c ss))) (outputs K T c ss)
+  outputs_shallow : (c : Command) (ss : List (Stream V)) → Fits c ss → AllByRecursion (Shallow (length ss)) ss → AllByRecursion (Shallow (length ss + length (outputs K T c ss))) (outputs K T c ss)
   outputs_shallow (ROOT out) ss f h = (omega arith, tt)
   outputs_shallow (SCAN t l r c k) ss f h =
       let lt = made_depth ss r _ f.0.is h in
@@ -193,11 +193,11 @@ module _ {V : Type 0} (K : Algebra V) (T : ℕ → Storage V) where
   outputs_shallow (WRITE d v zs ks) ss f h = tt
 
   run_bounded :
-      (b : ℕ) → 0 < b → LevelsBelow b T → (cs : List Command) (s : State V) → AllFit K T cs s → All (PayloadsBelow b) s.streams → All (Shallow (length s.streams)) s.streams
-      → All (λ x. PayloadsBelow b x × (depth_of x < length (run K T cs s).streams)) (run K T cs s).streams
+      (b : ℕ) → 0 < b → LevelsBelow b T → (cs : List Command) (s : State V) → AllFit K T cs s → AllByRecursion (PayloadsBelow b) s.streams → AllByRecursion (Shallow (length s.streams)) s.streams
+      → AllByRecursion (λ x. PayloadsBelow b x × (depth_of x < length (run K T cs s).streams)) (run K T cs s).streams
   run_bounded b some levels [] s f low shallow = both s.streams low shallow
     where
-      both : (xs : List (Stream V)) → All (PayloadsBelow b) xs → All (Shallow (length s.streams)) xs → All (λ x. PayloadsBelow b x × (depth_of x < length s.streams)) xs
+      both : (xs : List (Stream V)) → AllByRecursion (PayloadsBelow b) xs → AllByRecursion (Shallow (length s.streams)) xs → AllByRecursion (λ x. PayloadsBelow b x × (depth_of x < length s.streams)) xs
       both [] p q = tt
       both (x ∷ xs) p q = ((p.0, q.0), both xs p.1 q.1)
   run_bounded b some levels (c ∷ cs) s f low shallow =
@@ -208,7 +208,7 @@ module _ {V : Type 0} (K : Algebra V) (T : ℕ → Storage V) where
       (
       All-append (Shallow (length (s.streams ++ new))) s.streams new
       (All-weaker (Shallow (length s.streams)) (Shallow (length (s.streams ++ new))) (λ x lt. omega arith) s.streams shallow)
-      (subst (λ n. All (Shallow n) new) (sym long) (outputs_shallow c s.streams f.0 shallow))
+      (subst (λ n. AllByRecursion (Shallow n) new) (sym long) (outputs_shallow c s.streams f.0 shallow))
       )
 
 pub runs_bounded : (V : Type 0) → RunsBounded V

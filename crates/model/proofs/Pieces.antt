@@ -1,6 +1,6 @@
 -- A property that each command of a piece of a graph has, with one lemma for each way of joining pieces. Assumes nothing.
 use Rattle.std.proofs.Common.{ℕ, Bool, List, [], ◌∷◌}
-use Rattle.std.specs.List.{AllByRecursion as All}
+use Rattle.std.specs.List.{AllByRecursion}
 use Rattle.std.proofs.ByRecursion.{All-append}
 use Rattle.std.proofs.lemmas.Bool.{cond_both}
 use Rattle.model.specs.Commands.{Command}
@@ -9,7 +9,7 @@ use Rattle.model.specs.Lowering.{Lower, pure, then, emit, for_each, folded, fold
 
 -- Wherever the streams go on from, each command of the piece has P, and what the piece is for has G.
 abbrev pub Bears : {A : Type 0} → (Command → Type 0) → (A → Type 0) → Lower A → Type 0
-Bears P G m = (n : ℕ) → All P (m n).commands × G (m n).result
+Bears P G m = (n : ℕ) → AllByRecursion P (m n).commands × G (m n).result
 
 -- nothing is asked of a stream's number, or of several
 abbrev pub Any : {A : Type 0} → A → Type 0
@@ -32,12 +32,12 @@ module _ (P : Command → Type 0) where
 
   pub each_bears :
       {A B : Type 0} (F : A → Type 0) (G : B → Type 0) (f : A → Lower B) → ((x : A) → F x → Bears P G (f x))
-      → (xs : List A) → All F xs → Bears P (All G) (for_each f xs)
-  each_bears F G f h [] g = pure_bears (All G) [] tt
+      → (xs : List A) → AllByRecursion F xs → Bears P (AllByRecursion G) (for_each f xs)
+  each_bears F G f h [] g = pure_bears (AllByRecursion G) [] tt
   each_bears F G f h (x ∷ xs) g =
-      then_bears G (All G) (f x) (λ y. then (for_each f xs) (λ ys. pure (y ∷ ys))) (h x g.0)
-      λ y gy. then_bears (All G) (All G) (for_each f xs) (λ ys. pure (y ∷ ys)) (each_bears F G f h xs g.1)
-      λ ys gs. pure_bears (All G) (y ∷ ys) (gy, gs)
+      then_bears G (AllByRecursion G) (f x) (λ y. then (for_each f xs) (λ ys. pure (y ∷ ys))) (h x g.0)
+      λ y gy. then_bears (AllByRecursion G) (AllByRecursion G) (for_each f xs) (λ ys. pure (y ∷ ys)) (each_bears F G f h xs g.1)
+      λ ys gs. pure_bears (AllByRecursion G) (y ∷ ys) (gy, gs)
 
   -- a command of two inputs and an output that has P whatever they are
   abbrev pub Always : (ℕ → ℕ → ℕ → Command) → Type 0

@@ -1,7 +1,7 @@
 -- The accesses of a tree stand in its expression, each once and in their order. Assumes nothing.
 use Rattle.std.proofs.Common.{◌≡◌, ℕ, zero, suc, ◌+◌, ◌<◌, ◌≤◌, Bool, true, false, ◌||◌, List, [], ◌∷◌, ◌++◌, length, sym, refl, ap, ◌∙◌, ap₂, append_assoc, arith, length-append}
 use mathlib.Core.Bool.{false≢true}
-use Rattle.std.specs.List.{flat_map, AllByRecursion as All}
+use Rattle.std.specs.List.{flat_map, AllByRecursion}
 use Rattle.std.proofs.lemmas.List.{get_or_append_left, get_or-append-add}
 use Rattle.std.proofs.lemmas.Bool.{or_left, or_right}
 use Rattle.model.specs.Tensors.{has}
@@ -23,26 +23,26 @@ vars_append (x ∷ xs) ys = ap (λ (l : List ℕ). x.vars ++ l) (vars_append xs 
 module _ (P : Access → Type 0) where
   in_both :
       (p : ℕ) (a b : Tree)
-      → (All (λ c. P c.of) (accesses_from p a) → All P (accesses a))
-      → (All (λ c. P c.of) (accesses_from (p + length (text a) + 1) b) → All P (accesses b))
-      → All (λ c. P c.of) (accesses_from p a ++ accesses_from (p + length (text a) + 1) b) → All P (accesses a ++ accesses b)
+      → (AllByRecursion (λ c. P c.of) (accesses_from p a) → AllByRecursion P (accesses a))
+      → (AllByRecursion (λ c. P c.of) (accesses_from (p + length (text a) + 1) b) → AllByRecursion P (accesses b))
+      → AllByRecursion (λ c. P c.of) (accesses_from p a ++ accesses_from (p + length (text a) + 1) b) → AllByRecursion P (accesses a ++ accesses b)
   in_both p a b f g h =
       all_append P (accesses a) (accesses b)
       (f (all_front (λ c. P c.of) (accesses_from p a) (accesses_from (p + length (text a) + 1) b) h))
       (g (all_back (λ c. P c.of) (accesses_from p a) (accesses_from (p + length (text a) + 1) b) h))
 
-  pub all_placed : (p : ℕ) (t : Tree) → All (λ a. P a.of) (accesses_from p t) → All P (accesses t)
+  pub all_placed : (p : ℕ) (t : Tree) → AllByRecursion (λ a. P a.of) (accesses_from p t) → AllByRecursion P (accesses t)
   all_placed p (access l vs) h = h
   all_placed p (group t) h = all_placed (p + 1) t h
   all_placed p (times a b) h = in_both p a b (all_placed p a) (all_placed (p + length (text a) + 1) b) h
   all_placed p (plus a b) h = in_both p a b (all_placed p a) (all_placed (p + length (text a) + 1) b) h
 
-  pub all_terms : (p : ℕ) (t : Tree) → All P (accesses t) → All (λ u. All P (accesses u.tree)) (terms_from p t)
+  pub all_terms : (p : ℕ) (t : Tree) → AllByRecursion P (accesses t) → AllByRecursion (λ u. AllByRecursion P (accesses u.tree)) (terms_from p t)
   all_terms p (access l vs) h = (h, tt)
   all_terms p (group t) h = (h, tt)
   all_terms p (times a b) h = (h, tt)
   all_terms p (plus a b) h =
-      all_append (λ u. All P (accesses u.tree)) (terms_from p a) _
+      all_append (λ u. AllByRecursion P (accesses u.tree)) (terms_from p a) _
       (all_terms p a (all_front P (accesses a) (accesses b) h)) (all_back P (accesses a) (accesses b) h, tt)
 
 -- what is known of the expression of a tree from n on, and of a chain that begins with the tree's factors or products
@@ -144,7 +144,7 @@ nth_has (a ∷ acs) zero v h = has_append a.vars (vars_of acs) v ∙ or_left (ha
 nth_has (a ∷ acs) (suc i) v h = has_append a.vars (vars_of acs) v ∙ or_right (has a.vars v) (has (vars_of acs) v) (nth_has acs i v h)
 
 -- what holds where some access has a variable, holds where the accesses have it
-pub has_some : (acs : List Access) (v : ℕ) (Q : Type 0) → All (λ a. has a.vars v ≡ true → Q) acs → has (vars_of acs) v ≡ true → Q
+pub has_some : (acs : List Access) (v : ℕ) (Q : Type 0) → AllByRecursion (λ a. has a.vars v ≡ true → Q) acs → has (vars_of acs) v ≡ true → Q
 has_some [] v Q h k = absurd (false≢true k)
 has_some (a ∷ acs) v Q h k = go (has a.vars v) refl (sym (has_append a.vars (vars_of acs) v) ∙ k) (has_some acs v Q h.1)
   where

@@ -1,7 +1,7 @@
 -- Tables: what stands at a key, and that it determines the results. Assumes nothing.
 use Rattle.std.proofs.Common.{◌≡◌, ℕ, ◌<◌, Bool, true, false, cond, eqb, ltb, List, [], ◌∷◌, map, sym, refl, ap, ◌∙◌, subst, ap₂, true≢false, arith}
 use mathlib.Core.Bool.{false≢true}
-use Rattle.std.specs.List.{AllByRecursion as All}
+use Rattle.std.specs.List.{AllByRecursion}
 use Rattle.std.proofs.lemmas.Bool.{eq-eqb, eqb-true, eqb-false, ltb-true, ltb-false, lt-ltb}
 use Rattle.model.specs.Semirings.{Algebra, Laws, total, ZeroTest}
 use Rattle.model.specs.Tensors.{same}
@@ -114,10 +114,10 @@ module _ {V : Type 0} (K : Algebra V) (laws : Laws K) where
 
   -- keys ascend
   abbrev pub Above : Key → Table V → Type 0
-  Above k t = All (λ e. Before k e.0) t
+  Above k t = AllByRecursion (λ e. Before k e.0) t
 
   abbrev pub Keyed : {A : Type 0} → List A → Table V → Type 0
-  Keyed vs t = All (λ e. Long vs e.0) t
+  Keyed vs t = AllByRecursion (λ e. Long vs e.0) t
 
   look_above : (k : Key) (t : Table V) → Above k t → look k t ≡ K.zero
   look_above k [] h = refl

@@ -1,6 +1,6 @@
 -- The terms of an accepted line: their accesses, and that each has the left variables. Assumes nothing.
 use Rattle.std.proofs.Common.{◌≡◌, ℕ, ◌+◌, ◌<◌, Bool, true, false, not, ◌||◌, eqb, List, [], ◌∷◌, ◌++◌, map, length, None, sym, ap, ◌∙◌, subst, inl, inr, add-zero, add_assoc, zero-add, arith}
-use Rattle.std.specs.List.{flat_map, AllByRecursion as All}
+use Rattle.std.specs.List.{flat_map, AllByRecursion}
 use Rattle.std.proofs.lemmas.List.{append-nil, get_or_append_left, get_or-append-add, length-append}
 use Rattle.std.proofs.ByRecursion.{All-append, All-weaker}
 use Rattle.std.proofs.lemmas.Bool.{cond-true, cond_both, and_parts, or_cases, or_left, or_right, eqb-true, not-false, false≢true}
@@ -99,25 +99,25 @@ among_has : (xs ys : List ℕ) → Among xs ys → (v : ℕ) → has ys v ≡ tr
 among_has xs [] g v h = absurd (false≢true h)
 among_has xs (y ∷ ys) g v h = elim (or_cases (eqb y v) (has ys v) h) [ inl t ↦ subst (λ w. has xs w ≡ true) (eqb-true y v t) g.0 | inr t ↦ among_has xs ys g.1 v t ]
 
-all_of_map : {X Y : Type 0} (P : Y → Type 0) (f : X → Y) (xs : List X) → All P (map f xs) → All (λ x. P (f x)) xs
+all_of_map : {X Y : Type 0} (P : Y → Type 0) (f : X → Y) (xs : List X) → AllByRecursion P (map f xs) → AllByRecursion (λ x. P (f x)) xs
 all_of_map P f [] h = tt
 all_of_map P f (x ∷ xs) h = (h.0, all_of_map P f xs h.1)
 
-pub all_both : {X : Type 0} (P Q R : X → Type 0) → ((x : X) → P x → Q x → R x) → (xs : List X) → All P xs → All Q xs → All R xs
+pub all_both : {X : Type 0} (P Q R : X → Type 0) → ((x : X) → P x → Q x → R x) → (xs : List X) → AllByRecursion P xs → AllByRecursion Q xs → AllByRecursion R xs
 all_both P Q R f [] g h = tt
 all_both P Q R f (x ∷ xs) g h = (f x g.0 h.0, all_both P Q R f xs g.1 h.1)
 
 -- what holds of each access, holds of each access of a term
-pub terms_all : (P : Access → Type 0) (p : ℕ) (t : Tree) → All P (accesses t) → All (λ u. All P (accesses u.tree)) (terms_from p t)
+pub terms_all : (P : Access → Type 0) (p : ℕ) (t : Tree) → AllByRecursion P (accesses t) → AllByRecursion (λ u. AllByRecursion P (accesses u.tree)) (terms_from p t)
 terms_all P p (access l vs) h = (h, tt)
 terms_all P p (group t) h = (h, tt)
 terms_all P p (times a b) h = (h, tt)
 terms_all P p (plus a b) h =
-    All-append (λ u. All P (accesses u.tree)) (terms_from p a) (record { place = p + length (text a) + 1; tree = b } ∷ [])
+    All-append (λ u. AllByRecursion P (accesses u.tree)) (terms_from p a) (record { place = p + length (text a) + 1; tree = b } ∷ [])
     (terms_all P p a (all_front P (accesses a) (accesses b) h)) (all_back P (accesses a) (accesses b) h, tt)
 
 -- a line has the variables of its terms
-terms_within : (p : ℕ) (t : Tree) → All (λ u. (v : ℕ) → has (tree_vars u.tree) v ≡ true → has (tree_vars t) v ≡ true) (terms_from p t)
+terms_within : (p : ℕ) (t : Tree) → AllByRecursion (λ u. (v : ℕ) → has (tree_vars u.tree) v ≡ true → has (tree_vars t) v ≡ true) (terms_from p t)
 terms_within p (access l vs) = (λ v h. h, tt)
 terms_within p (group t) = (λ v h. h, tt)
 terms_within p (times a b) = (λ v h. h, tt)
@@ -136,7 +136,7 @@ order_has l h =
     among_all (tree_vars l.body) l.order (not-false (all_in (tree_vars l.body) l.order) last)
 
 -- every term has the left variables, in loop order
-pub lefts_in : (l : Syntax) → uneven l ≡ None → wrong_order l ≡ None → All (λ u. Among (variables l.order (term_of u)) l.left) (terms_from (body_place l) l.body)
+pub lefts_in : (l : Syntax) → uneven l ≡ None → wrong_order l ≡ None → AllByRecursion (λ u. Among (variables l.order (term_of u)) l.left) (terms_from (body_place l) l.body)
 lefts_in l even ordered =
     let us = terms_from (body_place l) l.body in
     let check : Placed → ℕ × Bool = λ t. (t.place, not (all_in l.left (tree_vars t.tree))) in

@@ -3,7 +3,7 @@ use Rattle.std.proofs.Common.{◌≡◌, ℕ, zero, suc, ◌<◌, Bool, true, fa
 use mathlib.Core.Bool.{false≢true}
 use mathlib.Core.List.{reverse-cons, reverse-reverse}
 use lib.ListN.{length-map}
-use Rattle.std.specs.List.{AllByRecursion as All, flat_map}
+use Rattle.std.specs.List.{AllByRecursion, flat_map}
 use Rattle.std.proofs.ByRecursion.{All-push}
 use Rattle.model.specs.Semirings.{Algebra, Laws, total}
 use Rattle.model.specs.Tensors.{Storage, has, same}
@@ -24,15 +24,15 @@ use Rattle.model.proofs.MergedFibers.{merges_well}
 use Rattle.model.proofs.Distribution.{in_bag, expr_value, distribute, over_bags, bags_occur, of_bag}
 use Rattle.model.proofs.SummationOrder.{over_rearranged}
 
-all_reverse : (P : ℕ → Type 0) (xs : List ℕ) → All P xs → All P (reverse xs)
+all_reverse : (P : ℕ → Type 0) (xs : List ℕ) → AllByRecursion P xs → AllByRecursion P (reverse xs)
 all_reverse P [] h = tt
-all_reverse P (x ∷ xs) h = subst (All P) (sym (reverse-cons x xs)) (All-push P (reverse xs) x (all_reverse P xs h.1) h.0)
+all_reverse P (x ∷ xs) h = subst (AllByRecursion P) (sym (reverse-cons x xs)) (All-push P (reverse xs) x (all_reverse P xs h.1) h.0)
 
-all_kept : (p : ℕ → Bool) (xs : List ℕ) → All (λ v. p v ≡ true) (kept p xs)
+all_kept : (p : ℕ → Bool) (xs : List ℕ) → AllByRecursion (λ v. p v ≡ true) (kept p xs)
 all_kept p [] = tt
 all_kept p (x ∷ xs) = go (p x) refl (all_kept p xs)
   where
-    go : (b : Bool) → p x ≡ b → All (λ v. p v ≡ true) (kept p xs) → All (λ v. p v ≡ true) (cond b (x ∷ kept p xs) (kept p xs))
+    go : (b : Bool) → p x ≡ b → AllByRecursion (λ v. p v ≡ true) (kept p xs) → AllByRecursion (λ v. p v ≡ true) (cond b (x ∷ kept p xs) (kept p xs))
     go true e ih = (e, ih)
     go false e ih = ih
 
@@ -49,11 +49,11 @@ access_below [] i v h = absurd (false≢true h)
 access_below (a ∷ acs) zero v h = omega arith
 access_below (a ∷ acs) (suc i) v h = let lt = access_below acs i v h in omega arith
 
-pub map_all : {A : Type 0} {V : Type 0} (P : A → Type 0) (f g : A → V) → ((a : A) → P a → f a ≡ g a) → (xs : List A) → All P xs → map f xs ≡ map g xs
+pub map_all : {A : Type 0} {V : Type 0} (P : A → Type 0) (f g : A → V) → ((a : A) → P a → f a ≡ g a) → (xs : List A) → AllByRecursion P xs → map f xs ≡ map g xs
 map_all P f g h [] k = refl
 map_all {A} {V} P f g h (x ∷ xs) k = ap₂ (λ y (l : List V). y ∷ l) (h x k.0) (map_all P f g h xs k.1)
 
-pub all_of_each : {A B : Type 0} (P : B → A → Type 0) → (xs : List A) → ((b : B) → All (P b) xs) → All (λ a. (b : B) → P b a) xs
+pub all_of_each : {A B : Type 0} (P : B → A → Type 0) → (xs : List A) → ((b : B) → AllByRecursion (P b) xs) → AllByRecursion (λ a. (b : B) → P b a) xs
 all_of_each P [] h = tt
 all_of_each P (x ∷ xs) h = (λ b. (h b).0, all_of_each P xs (λ b. (h b).1))
 
@@ -78,7 +78,7 @@ module _ {V : Type 0} (K : Algebra V) (laws : Laws K) (T : ℕ → Storage V) (e
   vars_distinct : Distinct vs
   vars_distinct = distinct_reverse (variables order t) (distinct_kept (λ v. occurs acs v t.body) order once)
 
-  occurs_all : All (λ v. occurs acs v t.body ≡ true) vs
+  occurs_all : AllByRecursion (λ v. occurs acs v t.body ≡ true) vs
   occurs_all = all_reverse (λ v. occurs acs v t.body ≡ true) (variables order t) (all_kept (λ v. occurs acs v t.body) order)
 
   lefts : (w : ℕ) → has left w ≡ true → has vs w ≡ true

@@ -1,7 +1,7 @@
 -- A property of the commands of a term: where each kind of command has it, all commands of the term have it. Assumes nothing.
 use Rattle.std.proofs.Common.{◌≡◌, ℕ, ◌+◌, true, cond, List, [], ◌∷◌, map, reverse, length, get_or}
 use mathlib.Core.List.{tail}
-use Rattle.std.specs.List.{AllByRecursion as All}
+use Rattle.std.specs.List.{AllByRecursion}
 use Rattle.std.proofs.lemmas.List.{length-map}
 use Rattle.std.proofs.lemmas.Bool.{cond_both}
 use Rattle.model.specs.Tensors.{has}
@@ -46,7 +46,7 @@ module _ (P : Command → Type 0) (Held : Access → Type 0) (left : List ℕ) (
       }
       )
       (record { commands = []; next = n; result = record { of = c.of; ref = c.ref; crd = 0; children = 0 } })
-      (λ (r : Lowered Scanned). All P r.commands × Seen r.result)
+      (λ (r : Lowered Scanned). AllByRecursion P r.commands × Seen r.result)
       (λ e. ((is.scan c.of h v e c.ref n (n + 1), tt), h))
       (λ e. (tt, h))
 
@@ -59,20 +59,20 @@ module _ (P : Command → Type 0) (Held : Access → Type 0) (left : List ℕ) (
 
   -- a result whose cursors are of such accesses
   abbrev Moved : {A : Type 0} → A × List Cursor → Type 0
-  Moved r = All Begun r.1
+  Moved r = AllByRecursion Begun r.1
 
-  variable_bears : (acs : List Access) (e : Expr) (v : ℕ) (cs : List Cursor) → All Begun cs → Bears P Moved (variable acs e v cs)
+  variable_bears : (acs : List Access) (e : Expr) (v : ℕ) (cs : List Cursor) → AllByRecursion Begun cs → Bears P Moved (variable acs e v cs)
   variable_bears acs e v cs h =
       let merged : List Scanned → Lower ℕ = λ ss. merge MEET JOIN (occurs acs v) (λ i. (get_or ss i no_scan).crd) e in
-      then_bears P (All Seen) Moved (for_each (scan v) cs) (λ ss. then (merged ss) (λ z. then (for_each (advance v z) ss) (λ moved. pure (z, moved))))
+      then_bears P (AllByRecursion Seen) Moved (for_each (scan v) cs) (λ ss. then (merged ss) (λ z. then (for_each (advance v z) ss) (λ moved. pure (z, moved))))
       (each_bears P Begun Seen (scan v) (scan_bears v) cs h)
       λ ss seen. then_bears P Any Moved (merged ss) (λ z. then (for_each (advance v z) ss) (λ moved. pure (z, moved)))
       (merge_bears P MEET JOIN is.meet is.join (occurs acs v) (λ i. (get_or ss i no_scan).crd) e)
-      λ z any. then_bears P (All Begun) Moved (for_each (advance v z) ss) (λ moved. pure (z, moved))
+      λ z any. then_bears P (AllByRecursion Begun) Moved (for_each (advance v z) ss) (λ moved. pure (z, moved))
       (each_bears P Seen Begun (advance v z) (advance_bears v z) ss seen)
       λ moved begun. pure_bears P Moved (z, moved) begun
 
-  loop_bears : (acs : List Access) (e : Expr) (zs vs : List ℕ) (cs : List Cursor) → All Begun cs → Bears P Moved (loop acs e zs vs cs)
+  loop_bears : (acs : List Access) (e : Expr) (zs vs : List ℕ) (cs : List Cursor) → AllByRecursion Begun cs → Bears P Moved (loop acs e zs vs cs)
   loop_bears acs e zs [] cs h = pure_bears P Moved (zs, cs) h
   loop_bears acs e zs (v ∷ vs) cs h =
       then_bears P Moved Moved (variable acs e v cs) (λ r. loop acs e (r.0 ∷ zs) vs r.1) (variable_bears acs e v cs h)
@@ -81,9 +81,9 @@ module _ (P : Command → Type 0) (Held : Access → Type 0) (left : List ℕ) (
   load_bears : (c : Cursor) → Begun c → Bears P Any (load c)
   load_bears c h = emit_bears P (LOAD c.of.slot c.ref) (is.load c.of h c.ref)
 
-  evaluate_bears : (e : Expr) (cs : List Cursor) → All Begun cs → Bears P Any (evaluate e cs)
+  evaluate_bears : (e : Expr) (cs : List Cursor) → AllByRecursion Begun cs → Bears P Any (evaluate e cs)
   evaluate_bears e cs h =
-      then_bears P (All Any) Any (for_each load cs) (λ xs. merge MUL ADD (λ e. true) (λ i. get_or xs i 0) e) (each_bears P Begun Any load load_bears cs h)
+      then_bears P (AllByRecursion Any) Any (for_each load cs) (λ xs. merge MUL ADD (λ e. true) (λ i. get_or xs i 0) e) (each_bears P Begun Any load load_bears cs h)
       (λ xs g. merge_bears P MUL ADD is.mul is.add (λ e. true) (λ i. get_or xs i 0) e)
 
   sums_bears : (vs zs : List ℕ) (a : ℕ) → Bears P Any (sums left vs zs a)
@@ -93,12 +93,12 @@ module _ (P : Command → Type 0) (Held : Access → Type 0) (left : List ℕ) (
       (λ t. pure_bears P {A = ℕ × List ℕ × List ℕ} Any (a, zs, v ∷ vs) tt)
       (λ f. then_bears P Any Any (emit (SUM a)) (λ b. sums left vs (tail zs) b) (emit_bears P (SUM a) (is.sum a)) (λ b g. sums_bears vs (tail zs) b))
 
-  pub term_bears : (order : List ℕ) (t : Term) → All Held t.accesses → Bears P Any (lower_term left order t)
+  pub term_bears : (order : List ℕ) (t : Term) → AllByRecursion Held t.accesses → Bears P Any (lower_term left order t)
   term_bears order t h =
       let acs = t.accesses in
       let e = t.body in
       let vs = variables order t in
-      then_bears P (All Begun) Any (for_each start acs) (λ cs. then (loop acs e [] vs cs) (λ r. then (evaluate e r.1) (λ x. then (sums left (reverse vs) r.0 x) (write left))))
+      then_bears P (AllByRecursion Begun) Any (for_each start acs) (λ cs. then (loop acs e [] vs cs) (λ r. then (evaluate e r.1) (λ x. then (sums left (reverse vs) r.0 x) (write left))))
       (each_bears P Held Begun start start_bears acs h)
       λ cs begun. then_bears P Moved Any (loop acs e [] vs cs) (λ r. then (evaluate e r.1) (λ x. then (sums left (reverse vs) r.0 x) (write left)))
       (loop_bears acs e [] vs cs begun)

@@ -1,7 +1,7 @@
 -- What the commands of a line add to the result table. Assumes nothing.
 use Rattle.std.proofs.Common.{◌≡◌, ℕ, suc, ◌+◌, Bool, true, false, cond, List, [], ◌∷◌, ◌++◌, map, reverse, length, Some, sym, refl, ap, ◌∙◌, subst, append-nil}
 use mathlib.Core.List.{map-append, reverse-cons}
-use Rattle.std.specs.List.{flat_map, AllByRecursion as All}
+use Rattle.std.specs.List.{flat_map, AllByRecursion}
 use Rattle.model.specs.Semirings.{Algebra}
 use Rattle.model.specs.Tensors.{has, Storage}
 use Rattle.model.specs.Trees.{Tree, beside, gathered, Pairwise}
@@ -20,7 +20,7 @@ use Rattle.model.proofs.BlockSteps.{AccessAscends, Standing, standing_on}
 use Rattle.model.proofs.LoopNests.{Merged, AllOccur, sound_loop, values_over, sound_values, sound_sums}
 use Rattle.model.proofs.NestedStreams.{write_fits}
 
-pairwise_self : {A : Type 0} (P : A → Type 0) (xs : List A) → All P xs → Pairwise (λ (a b : A). (b ≡ a) × P a) xs xs
+pairwise_self : {A : Type 0} (P : A → Type 0) (xs : List A) → AllByRecursion P xs → Pairwise (λ (a b : A). (b ≡ a) × P a) xs xs
 pairwise_self P [] h = tt
 pairwise_self P (x ∷ xs) h = ((refl, h.0), pairwise_self P xs h.1)
 
@@ -129,7 +129,7 @@ module _ {V : Type 0} (K : Algebra V) (T : ℕ → Storage V) where
   -- what is asked of a term whose commands fit
   pub record Writable (left order : List ℕ) (t : Term) : Type 0 where
     pub placed : Placed (length t.accesses) t.body
-    pub ascends : All (AccessAscends T) t.accesses
+    pub ascends : AllByRecursion (AccessAscends T) t.accesses
     pub lefts : (w : ℕ) → has left w ≡ true → has (over_vars K T left order t) w ≡ true
 
   module _ (left order : List ℕ) (t : Term) (ok : Writable left order t) where
@@ -166,7 +166,7 @@ module _ {V : Type 0} (K : Algebra V) (T : ℕ → Storage V) where
         )
         )
 
-  wrote_terms : (left order : List ℕ) (ts : List Term) → All (Writable left order) ts → (n : ℕ) (ss : List (Stream V)) → n ≡ length ss → Wrote (for_each (lower_term left order) ts n) ss (flat_map (entries K T left order) ts)
+  wrote_terms : (left order : List ℕ) (ts : List Term) → AllByRecursion (Writable left order) ts → (n : ℕ) (ss : List (Stream V)) → n ≡ length ss → Wrote (for_each (lower_term left order) ts n) ss (flat_map (entries K T left order) ts)
   wrote_terms left order [] p n ss e = wrote_pure [] n ss e
   wrote_terms left order (t ∷ ts) p n ss e =
       wrote_twice (lower_term left order t) (λ b. then (for_each (lower_term left order) ts) (λ bs. pure (b ∷ bs))) n (entries K T left order t) (flat_map (entries K T left order) ts)
@@ -174,8 +174,8 @@ module _ {V : Type 0} (K : Algebra V) (T : ℕ → Storage V) where
       (λ ss1 b k e1. subst (Wrote (then (for_each (lower_term left order) ts) (λ bs. pure (b ∷ bs)) k) ss1) (append-nil (flat_map (entries K T left order) ts)) (wrote_twice (for_each (lower_term left order) ts) (λ bs. pure (b ∷ bs)) k (flat_map (entries K T left order) ts) [] (wrote_terms left order ts p.1 k ss1 e1) (λ ss2 bs k1 e2. wrote_pure (b ∷ bs) k1 ss2 e2)))
 
   -- A line's commands put these entries into the table, and each fits at its turn.
-  pub line_writes : (l : Line) → All (Writable l.left l.order) l.terms → (run K T (lowered l) nothing_yet).table ≡ inserts K (flat_map (entries K T l.left l.order) l.terms) []
+  pub line_writes : (l : Line) → AllByRecursion (Writable l.left l.order) l.terms → (run K T (lowered l) nothing_yet).table ≡ inserts K (flat_map (entries K T l.left l.order) l.terms) []
   line_writes l p = ap (λ (s : State V). s.table) ((wrote_terms l.left l.order l.terms p 0 [] refl).runs [])
 
-  pub line_fits : (l : Line) → All (Writable l.left l.order) l.terms → AllFit K T (lowered l) nothing_yet
+  pub line_fits : (l : Line) → AllByRecursion (Writable l.left l.order) l.terms → AllFit K T (lowered l) nothing_yet
   line_fits l p = (wrote_terms l.left l.order l.terms p 0 [] refl).fits []

@@ -1,22 +1,22 @@
 -- Proofs of the worked examples. Assumes nothing.
 use Rattle.std.proofs.Common.{◌≡◌, ℕ, List, [], ◌∷◌, ◌++◌, codes, sym, refl, subst, inl, inr, arith}
-use Rattle.std.specs.List.{AllByRecursion as All}
+use Rattle.std.specs.List.{AllByRecursion}
 use Rattle.std.proofs.lemmas.List.{append_assoc}
 use Rattle.model.specs.Grammar.{access, Syntax, args, text, names, IsLine}
 use Rattle.model.specs.Worked.{Unfinished}
 
 -- every line has a ";"
-all_of_middle : (P : ℕ → Type 0) (v w : List ℕ) (b : ℕ) → All P (v ++ (b ∷ w)) → P b
+all_of_middle : (P : ℕ → Type 0) (v w : List ℕ) (b : ℕ) → AllByRecursion P (v ++ (b ∷ w)) → P b
 all_of_middle P [] w b h = h.0
 all_of_middle P (c ∷ v) w b h = all_of_middle P v w b h.1
 
-pub has_semicolon : (s : List ℕ) → IsLine s → All (λ b. b ≡ 59 → ⊥) s → ⊥
+pub has_semicolon : (s : List ℕ) → IsLine s → AllByRecursion (λ b. b ≡ 59 → ⊥) s → ⊥
 has_semicolon s g h =
     let l = g.0 in
     let P : ℕ → Type 0 = λ b. b ≡ 59 → ⊥ in
     let front = (82 ∷ args l.left) ++ (61 ∷ text l.body) in
     let whole : s ≡ front ++ (59 ∷ names l.order) = subst (λ x. x ≡ front ++ (59 ∷ names l.order)) g.2 (sym (append_assoc (82 ∷ args l.left) (61 ∷ text l.body) (59 ∷ names l.order))) in
-    all_of_middle P front (names l.order) 59 (subst (All P) whole h) refl
+    all_of_middle P front (names l.order) 59 (subst (AllByRecursion P) whole h) refl
 
 -- the line that begins so
 finished : Syntax

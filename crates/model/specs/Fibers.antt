@@ -1,6 +1,6 @@
 -- Levels of a tensor by their meaning, the list of their fibers. Assumes nothing.
 use Rattle.std.specs.Prelude.{◌≡◌, ℕ, ◌<◌, cond, List, [], ◌∷◌, map, length, get_or, Some, None, Option, ◌==◌, slice_index_or}
-use Rattle.std.specs.List.{slice_get, AllByRecursion as All}
+use Rattle.std.specs.List.{slice_get, AllByRecursion}
 use Rattle.std.specs.Option.{option_map}
 
 -- A fiber: its coordinates, ascending, each with the number of its child. A level: its fibers, by number.
@@ -35,7 +35,7 @@ at_of l p k = slice_get (fiber l p) k
 -- strictly ascending
 abbrev pub Ascends : List ℕ → Type 0
 Ascends [] = Unit {0}
-Ascends (x ∷ xs) = All (λ y. x < y) xs × Ascends xs
+Ascends (x ∷ xs) = AllByRecursion (λ y. x < y) xs × Ascends xs
 
 -- A level of f fibers whose coordinates ascend below the extent e, and whose children are 0 to n - 1, each used once.
 pub record Lawful (e f n : ℕ) (l : Level) : Type 0 where

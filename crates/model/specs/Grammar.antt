@@ -7,7 +7,7 @@
 --   access = one of A to H, args
 --   args   = "(" [var {"," var}] ")"
 use Rattle.std.specs.Prelude.{◌≡◌, ℕ, ◌+◌, ◌<◌, ◌≤◌, Bool, true, ◌&&◌, List, [], ◌∷◌, ◌++◌, length, take, nat_le}
-use Rattle.std.specs.List.{AllByRecursion as All}
+use Rattle.std.specs.List.{AllByRecursion}
 
 -- one of a to z, and one of A to H
 abbrev pub is_var : ℕ → Bool
@@ -57,7 +57,7 @@ height (times a b) = 1
 height (plus a b) = 2
 
 abbrev pub Vars : List ℕ → Type 0
-Vars vs = All (λ v. is_var v ≡ true) vs
+Vars vs = AllByRecursion (λ v. is_var v ≡ true) vs
 
 -- The trees of the grammar: a sum is any of them, a product one of height 1 at most, a factor one of height 0.
 abbrev pub Grammatical : Tree → Type 0

@@ -1,6 +1,6 @@
 -- What follows where levels and values hold a tensor: which values they are, and how small coordinates and children are. Assumes nothing.
 use Rattle.std.specs.Prelude.{◌≡◌, ℕ, ◌<◌, ◌≤◌, List, length}
-use Rattle.std.specs.List.{AllByRecursion as All}
+use Rattle.std.specs.List.{AllByRecursion}
 use Rattle.model.specs.Tensors.{Tensor, Storage, Holds}
 use Rattle.model.specs.Books.{Slot, position_values}
 
@@ -14,5 +14,5 @@ Positions V =
 abbrev pub HeldBelow : Type 0 → Type 0
 HeldBelow V =
     (zero : V) (t : Tensor V) (s : Storage V) (b : ℕ) → Holds zero t s
-    → All (λ e. e ≤ b) t.extents → All (λ l. length l ≤ b) s.levels → length s.values ≤ b
-    → All (All (All (λ x. (x.0 < b) × (x.1 < b)))) s.levels
+    → AllByRecursion (λ e. e ≤ b) t.extents → AllByRecursion (λ l. length l ≤ b) s.levels → length s.values ≤ b
+    → AllByRecursion (AllByRecursion (AllByRecursion (λ x. (x.0 < b) × (x.1 < b)))) s.levels

@@ -1,6 +1,6 @@
 -- Entries as rows of coordinates, and what their checks say.
 use Rattle.std.proofs.Common.{◌≡◌, ℕ, zero, suc, ◌+◌, ◌*◌, ◌<◌, ◌≤◌, Bool, true, false, cond, not, ◌||◌, List, [], ◌∷◌, map, length, get_or, take, drop, Some, None, Option, sym, refl, ap, ◌∙◌, mul-le-mul_left, mul-zero, mul-suc, arith}
-use Rattle.std.specs.List.{AllByRecursion as All}
+use Rattle.std.specs.List.{AllByRecursion}
 use Rattle.std.proofs.ByRecursion.{All-weaker}
 use Rattle.std.proofs.lemmas.List.{drop-drop, drop_more}
 use Rattle.std.proofs.lemmas.Bool.{or_parts, not-false}
@@ -36,22 +36,22 @@ entry_rows r cs (v ∷ vs) = ap (λ (l : List (List ℕ)). take r cs ∷ l) (ent
 -- what checked entries keep
 abbrev Follow : Option (List ℕ) → List (List ℕ) → Type 0
 Follow None css = Unit {0}
-Follow (Some p) css = All (λ ds. before p ds ≡ true) css
+Follow (Some p) css = AllByRecursion (λ ds. before p ds ≡ true) css
 
 checked : (es : List ℕ) (k : ℕ) (prior : Option (List ℕ)) (css : List (List ℕ)) → first_fault (entry_checks es k prior css) ≡ None
-    → All (λ cs. outside es cs ≡ false) css × Rising css × Follow prior css
+    → AllByRecursion (λ cs. outside es cs ≡ false) css × Rising css × Follow prior css
 checked es k None [] h = (tt, tt, tt)
 checked es k (Some p) [] h = (tt, tt, tt)
 checked es k prior (cs ∷ css) h =
     go (outside es cs || not (after prior cs)) refl h (checked es (suc k) (Some cs) css)
   where
-    follow : (p : Option (List ℕ)) → after p cs ≡ true → All (λ ds. before cs ds ≡ true) css → Follow p (cs ∷ css)
+    follow : (p : Option (List ℕ)) → after p cs ≡ true → AllByRecursion (λ ds. before cs ds ≡ true) css → Follow p (cs ∷ css)
     follow None a b = tt
     follow (Some p) a b = (a, All-weaker (λ ds. before cs ds ≡ true) (λ ds. before p ds ≡ true) (λ ds c. before_trans p cs ds a c) css b)
 
     go : (b : Bool) → (outside es cs || not (after prior cs)) ≡ b → cond b (Some k) (first_fault (entry_checks es (suc k) (Some cs) css)) ≡ None
-        → (first_fault (entry_checks es (suc k) (Some cs) css) ≡ None → All (λ cs. outside es cs ≡ false) css × Rising css × Follow (Some cs) css)
-        → All (λ cs. outside es cs ≡ false) (cs ∷ css) × Rising (cs ∷ css) × Follow prior (cs ∷ css)
+        → (first_fault (entry_checks es (suc k) (Some cs) css) ≡ None → AllByRecursion (λ cs. outside es cs ≡ false) css × Rising css × Follow (Some cs) css)
+        → AllByRecursion (λ cs. outside es cs ≡ false) (cs ∷ css) × Rising (cs ∷ css) × Follow prior (cs ∷ css)
     go true e q ih = absurd (let z : ◌≡◌ {A = ℕ} 0 1 = cc in omega arith)
     go false e q ih =
         let p = or_parts (outside es cs) (not (after prior cs)) e in

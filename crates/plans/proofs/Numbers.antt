@@ -1,7 +1,7 @@
 -- How many fronts rising rows have: counted row by row, bounded by the extents, and as many as rows at full depth.
 use Rattle.std.proofs.Common.{◌≡◌, ℕ, zero, suc, ◌+◌, ◌*◌, ◌<◌, ◌≤◌, Bool, true, false, cond, eqb, ltb, leb, ◌⊎◌, List, [], ◌∷◌, length, get_or, take, drop, sym, refl, ap, ◌∙◌, subst, ap₂, inl, inr, ⊎_elim, true≢false, add-mul, arith}
 use mathlib.Core.Bool.{false≢true}
-use Rattle.std.specs.List.{AllByRecursion as All}
+use Rattle.std.specs.List.{AllByRecursion}
 use Rattle.std.proofs.ByRecursion.{All-weaker}
 use Rattle.std.proofs.lemmas.List.{take_all, take-take, drop_all}
 use Rattle.std.proofs.lemmas.Bool.{eqb-true, ltb-true, or_parts, leb-false}
@@ -68,7 +68,7 @@ module _ (i e : ℕ) where
   abbrev Fits : List ℕ → Type 0
   Fits cs = (i < length cs) × (get_or cs i 0 < e)
 
-  pub fronts_bound : (x : List ℕ) (ys : List (List ℕ)) → Rising (x ∷ ys) → All Fits (x ∷ ys)
+  pub fronts_bound : (x : List ℕ) (ys : List (List ℕ)) → Rising (x ∷ ys) → AllByRecursion Fits (x ∷ ys)
       → length (fronts (suc i) (x ∷ ys)) + get_or x i 0 ≤ length (fronts i (x ∷ ys)) * e
   fronts_bound x [] r f = omega (arith, f.0.1)
   fronts_bound x (y ∷ ys) r f = go (same (take (suc i) x) (take (suc i) y)) (same (take i x) (take i y)) refl refl (fronts_bound y ys r.1 f.1)
@@ -107,7 +107,7 @@ module _ (es : List ℕ) (css : List (List ℕ)) (o : Ordered es css) where
   pub fronts_ample : (i : ℕ) → i < length es → length (fronts (suc i) css) ≤ length (fronts i css) * get_or es i 0
   fronts_ample i h = go css o.within o.rising
     where
-      go : (xs : List (List ℕ)) → All (λ cs. outside es cs ≡ false) xs → Rising xs → length (fronts (suc i) xs) ≤ length (fronts i xs) * get_or es i 0
+      go : (xs : List (List ℕ)) → AllByRecursion (λ cs. outside es cs ≡ false) xs → Rising xs → length (fronts (suc i) xs) ≤ length (fronts i xs) * get_or es i 0
       go [] w r = omega arith
       go (x ∷ xs) w r =
           let b = fronts_bound i (get_or es i 0) x xs r
@@ -122,11 +122,11 @@ module _ (es : List ℕ) (css : List (List ℕ)) (o : Ordered es css) where
       whole : (x : List ℕ) → outside es x ≡ false → take (length es) x ≡ x
       whole x q = take_all (length es) x (omega (arith, row_long es x q))
 
-      apart : (x : List ℕ) (xs : List (List ℕ)) → All (λ cs. outside es cs ≡ false) (x ∷ xs) → Rising (x ∷ xs) → next_same (length es) x xs ≡ false
+      apart : (x : List ℕ) (xs : List (List ℕ)) → AllByRecursion (λ cs. outside es cs ≡ false) (x ∷ xs) → Rising (x ∷ xs) → next_same (length es) x xs ≡ false
       apart x [] w r = refl
       apart x (y ∷ ys) w r = ap₂ same (whole x w.0) (whole y w.1.0) ∙ before_differs x y r.0.0
 
-      go : (xs : List (List ℕ)) → All (λ cs. outside es cs ≡ false) xs → Rising xs → length (fronts (length es) xs) ≡ length xs
+      go : (xs : List (List ℕ)) → AllByRecursion (λ cs. outside es cs ≡ false) xs → Rising xs → length (fronts (length es) xs) ≡ length xs
       go [] w r = refl
       go (x ∷ xs) w r =
           fronts_more (length es) x xs r ∙ ap (λ b. cond {A = ℕ} b 0 1 + length (fronts (length es) xs)) (apart x xs w r)

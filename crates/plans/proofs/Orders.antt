@@ -1,7 +1,7 @@
 -- The order of rows and of their fronts.
 use Rattle.std.proofs.Common.{◌≡◌, ℕ, zero, suc, Bool, true, false, cond, ◌||◌, eqb, ltb, ◌⊎◌, List, [], ◌∷◌, take, sym, refl, ap, ◌∙◌, subst, ap₂, inl, inr, ⊎_elim}
 use mathlib.Core.Bool.{false≢true}
-use Rattle.std.specs.List.{AllByRecursion as All}
+use Rattle.std.specs.List.{AllByRecursion}
 use Rattle.std.proofs.ByRecursion.{All-weaker}
 use Rattle.std.proofs.lemmas.Bool.{eqb-true, cases_Bool, or_left}
 use Rattle.model.specs.Tensors.{same}
@@ -47,7 +47,7 @@ front_apart d x y z h g s =
     (front_order d y z g))
     (front_order d x y h)
 
-none_pass : {A : Type 0} (p : A → Bool) (xs : List A) → All (λ x. p x ≡ false) xs → some_pass p xs ≡ false
+none_pass : {A : Type 0} (p : A → Bool) (xs : List A) → AllByRecursion (λ x. p x ≡ false) xs → some_pass p xs ≡ false
 none_pass p [] h = refl
 none_pass p (x ∷ xs) h = ap₂ ◌||◌ h.0 (none_pass p xs h.1)
 

@@ -1,6 +1,6 @@
 -- The coordinates of entries as rows: how they stand one after another, and what accepted ones keep.
 use Rattle.std.specs.Prelude.{◌≡◌, ℕ, zero, suc, ◌*◌, Bool, true, false, List, [], ◌∷◌, take, drop, Some, None, Option}
-use Rattle.std.specs.List.{AllByRecursion as All}
+use Rattle.std.specs.List.{AllByRecursion}
 use Rattle.model.specs.Tensors.{same}
 use Rattle.model.specs.Running.{before}
 use Rattle.model.specs.Stores.{outside}
@@ -13,11 +13,11 @@ rows_of r (suc n) cs = take r cs ∷ rows_of r n (drop r cs)
 -- each row is before all that come after it
 abbrev pub Rising : List (List ℕ) → Type 0
 Rising [] = Unit {0}
-Rising (cs ∷ css) = All (λ ds. before cs ds ≡ true) css × Rising css
+Rising (cs ∷ css) = AllByRecursion (λ ds. before cs ds ≡ true) css × Rising css
 
 -- Rows that ascend, each within the extents.
 pub record Ordered (es : List ℕ) (css : List (List ℕ)) : Type 0 where
-  pub within : All (λ cs. outside es cs ≡ false) css
+  pub within : AllByRecursion (λ cs. outside es cs ≡ false) css
   pub rising : Rising css
 
 -- row k of coordinates that stand row after row, and the one before it

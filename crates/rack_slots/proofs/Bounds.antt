@@ -1,6 +1,6 @@
 -- What an accepted STORE keeps small: extents, the fibers of every level, and words and positions within the slot. Assumes nothing.
 use Rattle.std.proofs.Common.{◌≡◌, ℕ, suc, ◌<◌, ◌≤◌, false, ltb, List, [], ◌∷◌, map, length, get_or, take, drop, None, sym, refl, ap, ◌∙◌, arith, lit≤}
-use Rattle.std.specs.List.{AllByRecursion as All}
+use Rattle.std.specs.List.{AllByRecursion}
 use Rattle.std.proofs.ByRecursion.{All-from_get_or}
 use Rattle.std.proofs.lemmas.Bool.{ltb-false, or_parts}
 use Rattle.model.specs.Fibers.{Level, Lawful}
@@ -18,14 +18,14 @@ sizes_extents rules css n f [] fs h = refl
 sizes_extents rules css n f (e ∷ es) [] h = absurd (omega arith)
 sizes_extents rules css n f (e ∷ es) (k ∷ fs) h = ap (λ (x : List ℕ). e ∷ x) (sizes_extents rules css (suc n) _ es fs (omega arith))
 
-extents_few : (es : List ℕ) → ((i : ℕ) → i < length es → get_or es i 0 ≤ 4096) → All (λ e. e ≤ 65536) es
+extents_few : (es : List ℕ) → ((i : ℕ) → i < length es → get_or es i 0 ≤ 4096) → AllByRecursion (λ e. e ≤ 65536) es
 extents_few es h = All-from_get_or (λ e. e ≤ 65536) es 0 (λ i l. omega (arith, h i l))
 
 -- where no level has many children, no level has many fibers
 few_fibers :
     (b : ℕ) (rules : FormatRules) (css : List (List ℕ)) (n f : ℕ) (es fs : List ℕ) → f ≤ b
     → some_pass (λ l. ltb b (rules.children l.0 l.1)) (level_sizes rules css n f es fs) ≡ false
-    → All (λ l. l.1.fibers ≤ b) (level_sizes rules css n f es fs)
+    → AllByRecursion (λ l. l.1.fibers ≤ b) (level_sizes rules css n f es fs)
 few_fibers b rules css n f [] fs l h = tt
 few_fibers b rules css n f (e ∷ es) [] l h = tt
 few_fibers b rules css n f (e ∷ es) (k ∷ fs) l h =
@@ -37,7 +37,7 @@ few_fibers b rules css n f (e ∷ es) (k ∷ fs) l h =
 pub built_fibers :
     (b : ℕ) (rules : FormatRules) (meaning : ℕ → LevelSize → List ℕ → Level) (kept : ℕ → LevelSize → List ℕ → Type 0)
     → ((i : ℕ) (s : LevelSize) (ws : List ℕ) → kept i s ws → Lawful s.extent s.fibers (rules.children i s) (meaning i s ws))
-    → (ls : List (ℕ × LevelSize)) (ws : List ℕ) → All (λ l. l.1.fibers ≤ b) ls → Kept rules kept ls ws → All (λ l. length l ≤ b) (levels_on rules meaning ls ws)
+    → (ls : List (ℕ × LevelSize)) (ws : List ℕ) → AllByRecursion (λ l. l.1.fibers ≤ b) ls → Kept rules kept ls ws → AllByRecursion (λ l. length l ≤ b) (levels_on rules meaning ls ws)
 built_fibers b rules meaning kept lawful [] ws few sound = tt
 built_fibers b rules meaning kept lawful (l ∷ ls) ws few sound =
     let w = take (rules.need l.0 l.1) ws in (
@@ -48,8 +48,8 @@ built_fibers b rules meaning kept lawful (l ∷ ls) ws few sound =
 pub record Bounded {V : Type 0} (z : Sizes) (rules : FormatRules) (q : Request V) : Type 0 where
   pub in_range : q.slot ≤ 7
   pub extents : map (λ l. l.1.extent) (sizes_of rules q) ≡ q.extents
-  pub narrow : All (λ e. e ≤ 65536) q.extents
-  pub few : All (λ l. l.1.fibers ≤ 65536) (sizes_of rules q)
+  pub narrow : AllByRecursion (λ e. e ≤ 65536) q.extents
+  pub few : AllByRecursion (λ l. l.1.fibers ≤ 65536) (sizes_of rules q)
   pub words : needed rules (sizes_of rules q) ≤ z.level_words
   pub positions : positions_used rules q ≤ z.positions
 

@@ -1,6 +1,6 @@
 -- What a slot holds after an accepted STORE: the tensor with the levels that were built, and small coordinates and children. Assumes nothing.
 use Rattle.std.proofs.Common.{◌≡◌, ℕ, zero, suc, ◌<◌, ◌≤◌, List, [], ◌∷◌, map, length, get_or, take, Some, sym, ap, ◌∙◌, subst, arith}
-use Rattle.std.specs.List.{AllByRecursion as All}
+use Rattle.std.specs.List.{AllByRecursion}
 use Rattle.std.proofs.ByRecursion.{All-weaker}
 use Rattle.std.proofs.lemmas.List.{length-map, length-take}
 use Rattle.model.specs.Fibers.{Level, Lawful}
@@ -18,7 +18,7 @@ use Rattle.tensors.specs.Stored.{Accepted}
 use Rattle.rack_slots.proofs.Bounds.{Bounded, bounded, built_fibers}
 
 -- what holds of all and of the default holds at every index
-all_at : {A : Type 0} (Q : A → Type 0) (d : A) → Q d → (xs : List A) → All Q xs → (i : ℕ) → Q (get_or xs i d)
+all_at : {A : Type 0} (Q : A → Type 0) (d : A) → Q d → (xs : List A) → AllByRecursion Q xs → (i : ℕ) → Q (get_or xs i d)
 all_at Q d q [] h i = q
 all_at Q d q (x ∷ xs) h zero = h.0
 all_at Q d q (x ∷ xs) h (suc i) = all_at Q d q xs h.1 i
@@ -27,10 +27,10 @@ abbrev Low : ℕ → ℕ × ℕ → Type 0
 Low b x = (x.0 < b) × (x.1 < b)
 
 -- bounds are weaker the larger they are
-lower : (a b : ℕ) → a ≤ b → (ls : List Level) → All (All (All (Low a))) ls → All (All (All (Low b))) ls
+lower : (a b : ℕ) → a ≤ b → (ls : List Level) → AllByRecursion (AllByRecursion (AllByRecursion (Low a))) ls → AllByRecursion (AllByRecursion (AllByRecursion (Low b))) ls
 lower a b h =
-    All-weaker (All (All (Low a))) (All (All (Low b)))
-    (All-weaker (All (Low a)) (All (Low b)) (All-weaker (Low a) (Low b) (λ x p. (omega (arith, p.0), omega (arith, p.1)))))
+    All-weaker (AllByRecursion (AllByRecursion (Low a))) (AllByRecursion (AllByRecursion (Low b)))
+    (All-weaker (AllByRecursion (Low a)) (AllByRecursion (Low b)) (All-weaker (Low a) (Low b) (λ x p. (omega (arith, p.0), omega (arith, p.1)))))
 
 -- the slot as the book has it: the tensor that was asked for, and the levels that its words mean
 abbrev pub new_slot : {V : Type 0} → FormatRules → (ℕ → LevelSize → List ℕ → Level) → Request V → List ℕ → Slot V
@@ -66,7 +66,7 @@ module _ {P V : Type 0} (rules : FormatRules) (meaning : ℕ → LevelSize → L
 
     pub new_low :
         ((i : ℕ) (l : LevelSize) (ws : List ℕ) → kept i l ws → Lawful l.extent l.fibers (rules.children i l) (meaning i l ws))
-        → z.positions ≤ 4096 → (l : ℕ) → All (All (Low 0x80000000)) (get_or filled.levels l [])
+        → z.positions ≤ 4096 → (l : ℕ) → AllByRecursion (AllByRecursion (Low 0x80000000)) (get_or filled.levels l [])
     new_low lawful few =
         let b : Bounded z rules q = bounded z rules q a.unopposed in
         let vs : List V = map reads (take n values) in
@@ -74,4 +74,4 @@ module _ {P V : Type 0} (rules : FormatRules) (meaning : ℕ → LevelSize → L
         omega (arith, length-map (take n values) reads, length-take n values, a.answer, b.positions) in
         let low = held_payloads V zero_value (tensor_of q) (storage rules meaning reads (sizes_of rules q) n words values) 65536 a.written.holds b.narrow
         (built_fibers 65536 rules meaning kept lawful (sizes_of rules q) words b.few a.written.sound) used in
-        all_at (All (All (Low 0x80000000))) [] tt filled.levels (lower 65536 0x80000000 (omega arith) filled.levels low)
+        all_at (AllByRecursion (AllByRecursion (Low 0x80000000))) [] tt filled.levels (lower 65536 0x80000000 (omega arith) filled.levels low)

@@ -1,6 +1,6 @@
 -- STORE by the book: busy, refused, accepted. Assumes nothing.
 use Rattle.std.proofs.Common.{◌≡◌, ℕ, ◌+◌, ◌*◌, ◌<◌, ◌≤◌, Bool, true, false, cond, eqb, List, [], length, get_or, drop, IfSome, Some, None, Option, sym, refl, ap, ◌∙◌, subst, arith}
-use Rattle.std.specs.List.{AllByRecursion as All}
+use Rattle.std.specs.List.{AllByRecursion}
 use Rattle.std.proofs.lemmas.List.{get_or-set_same, get_or-set_other}
 use Rattle.std.proofs.lemmas.Bool.{cond_both, eqb-true, eqb-false}
 use Rattle.model.specs.Semirings.{Algebra}
@@ -118,7 +118,7 @@ module _ {P V : Type 0} (K : Algebra V) (reads : P → V) (rules : FormatRules) 
               (new_held rules meaning kept K.zero reads z q s.slots n x a) (λ i ne. m.held i);
           small =
               each_slot q.slot filled b.slots
-              (λ i o. (l : ℕ) → All (All (λ y. (y.0 < 0x80000000) × (y.1 < 0x80000000))) (get_or (storage_of K.zero o).levels l []))
+              (λ i o. (l : ℕ) → AllByRecursion (AllByRecursion (λ y. (y.0 < 0x80000000) × (y.1 < 0x80000000))) (get_or (storage_of K.zero o).levels l []))
               (new_low rules meaning kept K.zero reads z q s.slots n x a lawful few) (λ i ne. m.small i);
           graph = graph_stays K reads rules meaning s x b.slots (with_slot q.slot filled b.slots) b.loaded s.loaded (sym idle) m.graph;
         }

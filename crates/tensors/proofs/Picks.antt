@@ -1,7 +1,7 @@
 -- The lists of a level, picked from rows with an owner each: they are lists to build from, and have every row's coordinate.
 use Rattle.std.proofs.Common.{◌≡◌, ℕ, zero, suc, ◌+◌, ◌<◌, ◌≤◌, Bool, true, false, cond, List, [], ◌∷◌, ◌++◌, map, length, get_or, take, drop, set, sym, refl, ap, ◌∙◌, ap₂, ⊎_elim, arith}
 use mathlib.Core.Bool.{false≢true}
-use Rattle.std.specs.List.{AllByRecursion as All}
+use Rattle.std.specs.List.{AllByRecursion}
 use Rattle.std.proofs.ByRecursion.{All-get_or}
 use Rattle.std.proofs.lemmas.List.{length-map, get_or-map, get_or-take, take-take, drop_more, drop_all, take_more_set, append_assoc, append-nil}
 use Rattle.model.specs.Formats.{LevelSize, Listed}
@@ -45,20 +45,20 @@ module _ (d : ℕ) where
 
   -- what holds of each row's owner and coordinate holds of each pair picked
   picked_all : (P : ℕ × ℕ → Type 0) (os : List ℕ) (css : List (List ℕ)) → length os ≡ length css
-      → ((k : ℕ) → k < length css → P (get_or os k 0, get_or (get_or css k []) d 0)) → All P (picked d os css)
+      → ((k : ℕ) → k < length css → P (get_or os k 0, get_or (get_or css k []) d 0)) → AllByRecursion P (picked d os css)
   picked_all P [] css h a = tt
   picked_all P (o ∷ os) [] h a = tt
   picked_all P (o ∷ os) (cs ∷ css) h a =
       go (next_same (suc d) cs css) (picked_all P os css (omega arith) (λ k i. a (suc k) (omega arith)))
     where
-      go : (b : Bool) → All P (picked d os css) → All P (cond b (picked d os css) ((o, get_or cs d 0) ∷ picked d os css))
+      go : (b : Bool) → AllByRecursion P (picked d os css) → AllByRecursion P (cond b (picked d os css) ((o, get_or cs d 0) ∷ picked d os css))
       go true ih = ih
       go false ih = (a 0 (omega arith), ih)
 
   -- pairs of one owner ascend
   abbrev Climbs : List (ℕ × ℕ) → Type 0
   Climbs [] = Unit {0}
-  Climbs (x ∷ xs) = All (λ y. x.0 ≡ y.0 → x.1 < y.1) xs × Climbs xs
+  Climbs (x ∷ xs) = AllByRecursion (λ y. x.0 ≡ y.0 → x.1 < y.1) xs × Climbs xs
 
   climbs_at : (xs : List (ℕ × ℕ)) → Climbs xs → (j k : ℕ) → j < k → k < length xs → get_or (map (λ x. x.0) xs) j 0 ≡ get_or (map (λ x. x.0) xs) k 0
       → get_or (map (λ x. x.1) xs) j 0 < get_or (map (λ x. x.1) xs) k 0
@@ -76,7 +76,7 @@ module _ (d : ℕ) where
     long_row cs q = omega (arith, row_long es cs q)
 
     -- of rows with one front, the last of one longer front is below each later row
-    climb : (o : ℕ) (os cs : List ℕ) (css : List (List ℕ)) → Owners d f (o ∷ os) (cs ∷ css) → All (λ cs. outside es cs ≡ false) (cs ∷ css) → Rising (cs ∷ css)
+    climb : (o : ℕ) (os cs : List ℕ) (css : List (List ℕ)) → Owners d f (o ∷ os) (cs ∷ css) → AllByRecursion (λ cs. outside es cs ≡ false) (cs ∷ css) → Rising (cs ∷ css)
         → next_same (suc d) cs css ≡ false → (k : ℕ) → k < length css → o ≡ get_or os k 0 → get_or cs d 0 < get_or (get_or css k []) d 0
     climb o os cs css w i r e k h s =
         let ds = get_or css k [] in
@@ -87,14 +87,14 @@ module _ (d : ℕ) where
         (λ x. x)
         (next_order d cs ds lt (long_row cs i.0) (long_row ds inside) (w.one 0 (suc k) (omega arith) (omega arith) s))
       where
-        apart : (xs : List (List ℕ)) (k : ℕ) → k < length xs → All (λ ds. before cs ds ≡ true) xs → Rising xs → next_same (suc d) cs xs ≡ false
+        apart : (xs : List (List ℕ)) (k : ℕ) → k < length xs → AllByRecursion (λ ds. before cs ds ≡ true) xs → Rising xs → next_same (suc d) cs xs ≡ false
             → same (take (suc d) cs) (take (suc d) (get_or xs k [])) ≡ false
         apart [] k h b r e = absurd (omega arith)
         apart (x ∷ xs) zero h b r e = e
         apart (x ∷ xs) (suc k) h b r e =
             front_apart (suc d) cs x (get_or xs k []) b.0 (All-get_or (λ ds. before x ds ≡ true) xs k [] (omega arith) r.0) e
 
-    picked_climbs : (os : List ℕ) (css : List (List ℕ)) → Owners d f os css → All (λ cs. outside es cs ≡ false) css → Rising css → Climbs (picked d os css)
+    picked_climbs : (os : List ℕ) (css : List (List ℕ)) → Owners d f os css → AllByRecursion (λ cs. outside es cs ≡ false) css → Rising css → Climbs (picked d os css)
     picked_climbs [] css w i r = tt
     picked_climbs (o ∷ os) [] w i r = tt
     picked_climbs (o ∷ os) (cs ∷ css) w i r =

@@ -1,5 +1,5 @@
 use Rattle.std.proofs.Common.{◌≤◌, sym, subst, arith}
-use Rattle.std.specs.List.{AllByRecursion as All}
+use Rattle.std.specs.List.{AllByRecursion}
 use Rattle.std.proofs.ByRecursion.{All-weaker}
 use Rattle.lines.specs.Lists.{Inside}
 use Rattle.lines.proofs.Describing.{table_inside, left_in, root_plain}
@@ -17,7 +17,7 @@ fourth_argument-argument-requires c =
     let p = c.requires in
     let s = c.args.text.now in
     let near = All-weaker (λ e. Inside s e.vars) (λ e. e.vars.place ≤ 257) (λ e h. omega (arith, p.1.short)) _ (table_inside s c.args.self.now p.0 p.1 p.2) in
-    record { left = omega (arith, left_in s c.args.self.now p.0 p.1 p.2, p.1.short); table = subst (All (λ e. e.vars.place ≤ 257)) (sym c.as_slice.ensures) near }
+    record { left = omega (arith, left_in s c.args.self.now p.0 p.1 p.2, p.1.short); table = subst (AllByRecursion (λ e. e.vars.place ≤ 257)) (sym c.as_slice.ensures) near }
 
 pub fifth_bracket-bracket-requires : goal.fifth_bracket-bracket-requires
 fifth_bracket-bracket-requires c = let p = c.requires in record { node = root_plain c.args.text.now c.args.self.now p.0 p.1 p.2; shallow = omega arith }
