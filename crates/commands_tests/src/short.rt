@@ -7,7 +7,7 @@ fn no_byte(rt: HostRuntime) {
 }
 
 #[test]
-fn one_byte(rt: HostRuntime) {
+fn every_byte(rt: HostRuntime) {
     for byte in 0..=255u8 {
         let expected = if byte == 0x00 {
             Decoded::End
@@ -19,7 +19,7 @@ fn one_byte(rt: HostRuntime) {
 }
 
 #[test]
-fn two_bytes(rt: HostRuntime) {
+fn every_pair(rt: HostRuntime) {
     for pair in 0..=65535u16 {
         let [first, second] = pair.to_be_bytes();
         let expected = match first {
