@@ -1,5 +1,5 @@
 -- What the calls do keeps the promises: a rack that mirrors a book goes on to mirror it, and a book that calls lead to keeps them. Assumes nothing.
-use Rattle.std.proofs.Common.{◌≡◌, ℕ, zero, suc, ◌≤◌, List, [], ◌∷◌, ◌++◌, length, take, drop, sym, refl, ap, ◌∙◌, subst, append_assoc, le_of_suc-le-suc, not-suc-le-zero, MatchOption}
+use Rattle.std.proofs.Common.{◌≡◌, ℕ, zero, suc, ◌≤◌, List, [], ◌∷◌, ◌++◌, length, take, drop, sym, refl, ap, ◌∙◌, subst, append_assoc, le_of_suc-le-suc, not-suc-le-zero}
 use Rattle.std.proofs.lemmas.List.{append-nil}
 use Rattle.model.specs.Semirings.{Algebra, Laws, ZeroTest}
 use Rattle.model.specs.Fibers.{Level}

@@ -1,5 +1,5 @@
 -- A rack that mirrors a book shows what its loaded graph has made. Assumes nothing.
-use Rattle.std.proofs.Common.{◌≡◌, ℕ, zero, suc, ◌≤◌, min, List, [], ◌∷◌, map, length, take, IfSome, Some, None, Option, sym, refl, ap, ◌∙◌, le_of_suc-le-suc, not-suc-le-zero, arith}
+use Rattle.std.proofs.Common.{◌≡◌, ℕ, zero, suc, ◌≤◌, List, [], ◌∷◌, map, length, take, IfSome, Some, None, Option, sym, refl, ap, ◌∙◌, le_of_suc-le-suc, not-suc-le-zero, arith}
 use Rattle.std.proofs.lemmas.List.{length-map, length-take, take-map}
 use Rattle.model.specs.Semirings.{Algebra, zipped}
 use Rattle.model.specs.Fibers.{Level}
@@ -8,13 +8,11 @@ use Rattle.model.specs.Commands.{filled}
 use Rattle.model.specs.Stores.{FormatRules}
 use Rattle.model.specs.Running.{Table}
 use Rattle.model.specs.Books.{Slot, Loaded}
-use Rattle.results.specs.declared.key.ResultKey.{ResultKey}
 use Rattle.results.specs.Keys.{coordinates}
-use Rattle.results.specs.Tables.{entries}
 use Rattle.results.specs.Padding.{padded}
 use Rattle.rack_state.specs.declared.state.Loaded as code
 use Rattle.rack_state.specs.Snapshots.{Snapshot}
-use Rattle.rack_state.specs.Mirrors.{TableHeld, Carries, GraphMirrors}
+use Rattle.rack_state.specs.Mirrors.{Carries, GraphMirrors}
 use Rattle.rack.specs.Courses.{ShowsGraph}
 
 module _ {X Y A B : Type 0} (f : X → A) (g : Y → B) where

@@ -1,6 +1,5 @@
 -- The calls and answers of the code as those of the book. Assumes nothing.
 use Rattle.std.specs.Prelude.{List, map}
-use Rattle.std.specs.Option.{option_map}
 use Rattle.model.specs.Calls as model
 use Rattle.model.specs.Semirings.{zipped}
 use Rattle.plans.specs.Requests.{request}

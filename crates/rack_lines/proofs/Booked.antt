@@ -1,5 +1,5 @@
 -- What a rack tells of a book that it mirrors: whether a graph is under way, and what a line sees of the slots. Assumes nothing.
-use Rattle.std.proofs.Common.{◌≡◌, ℕ, not, eqb, List, get_or, Some, None, Option, sym, refl, ap, ◌∙◌}
+use Rattle.std.proofs.Common.{◌≡◌, ℕ, List, get_or, Some, None, Option, refl, ap, ◌∙◌}
 use mathlib.Core.Path.{fun_ext}
 use Rattle.std.specs.Option.{option_map}
 use Rattle.model.specs.Semirings.{Algebra}
@@ -8,13 +8,11 @@ use Rattle.model.specs.Formats.{LevelSize}
 use Rattle.model.specs.Conditions.{Slots}
 use Rattle.model.specs.Meaning.{extents_seen}
 use Rattle.model.specs.Stores.{FormatRules}
-use Rattle.model.specs.Books as book
 use Rattle.model.specs.Books.{Slot, Book, tensors_of, is_busy}
 use Rattle.slots.specs.Records.{extents}
 use Rattle.slots.specs.declared.records.TensorRecord.{TensorRecord}
-use Rattle.rack_state.specs.declared.state.Loaded.{Loaded}
 use Rattle.rack_state.specs.Snapshots.{Snapshot}
-use Rattle.rack_state.specs.Mirrors.{SlotMirrors, GraphMirrors, Mirrors}
+use Rattle.rack_state.specs.Mirrors.{SlotMirrors, Mirrors}
 use Rattle.rack_state.specs.Busy.{under_way}
 use Rattle.rack_state.proofs.Mirrored.{busy_alike}
 

@@ -1,4 +1,4 @@
-use Rattle.std.proofs.Common.{◌≡◌, ◌<◌, min, length, ◌∙◌, subst, arith}
+use Rattle.std.proofs.Common.{◌≡◌, ◌<◌, min, length, subst, arith}
 use Rattle.plans.specs.Rooms.{rules_of}
 use Rattle.rack.specs.Racks.{seen}
 use Rattle.rack.proofs.Performing.{SoFar, so_far_none, so_far_more, so_far_all}
