@@ -15,7 +15,7 @@ use slots::SlotAreas;
 use streams::Tapes;
 
 // Whether the command found room; past the room nothing changes.
-pub fn carry_within<V: Semiring, S: Formats>(
+pub(crate) fn carry_within<V: Semiring, S: Formats>(
     command: Command,
     tensors: &SlotAreas<V::Plain>,
     rooms: Rooms,
