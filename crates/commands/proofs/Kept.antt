@@ -1,8 +1,9 @@
 -- A command of the model, held and read back.
-use Rattle.std.proofs.Common.{◌≡◌, ℕ, zero, suc, ◌≤◌, eqb, List, [], ◌∷◌, ◌++◌, length, take, sym, refl, ap, ◌∙◌, arith}
+use Rattle.std.proofs.Common.{◌≡◌, ℕ, zero, suc, ◌≤◌, eqb, List, [], ◌∷◌, ◌++◌, length, take, Option, Result, sym, refl, ap, ◌∙◌, arith}
 use Rattle.std.specs.List.{AllByRecursion}
 use Rattle.std.proofs.lemmas.Bool.{ne_eqb, cond-false}
-use Rattle.commands.specs.declared.command.Decoded.{Decoded}
+use Rattle.commands.specs.declared.command.Command.{Command}
+use Rattle.commands.specs.declared.command.UnknownCommand.{UnknownCommand}
 use Rattle.commands.specs.Bytes.{depth_streams, key_depths, Rereads}
 use Rattle.commands.proofs.Operands.{spread_all}
 use Rattle.model.specs.Commands as model
@@ -54,7 +55,7 @@ kept (model.WRITE d v zs ks) =
           ap (λ x. model.WRITE d v x (nonzero_front (key_depths (keys_held (filled 3 0x00 ks))))) crds ∙ ap (model.WRITE d v zs) keys;
     }
 
-pub reads_model : (s : List ℕ) (r : Decoded) → Rereads s r → ReadsModel s r
+pub reads_model : (s : List ℕ) (r : Result (Option Command) UnknownCommand) → Rereads s r → ReadsModel s r
 reads_model s r again m rest small e =
     let k = kept m in
     (again (held m) rest (e ∙ ap (λ x. x ++ rest) (sym k.same)), k.again small)

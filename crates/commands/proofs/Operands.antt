@@ -1,6 +1,9 @@
 -- Operands read one by one, and commands told apart by their bytes.
-use Rattle.std.proofs.Common.{◌≡◌, ℕ, zero, suc, ◌+◌, ◌≤◌, cond, eqb, List, [], ◌∷◌, ◌++◌, length, get_or, drop, Some, None, Option, sym, refl, ap, ◌∙◌, arith, length-append}
+use Rattle.std.proofs.Common.{◌≡◌, ℕ, zero, suc, ◌+◌, ◌≤◌, cond, eqb, List, [], ◌∷◌, ◌++◌, length, get_or, drop, Some, None, Option, sym, refl, ap, subst, ◌∙◌, arith, length-append}
+use Rattle.std.proofs.Math.Nat.{ℕ_set}
+use Rattle.std.proofs.lemmas.List.{append_assoc, drop_at}
 use Rattle.commands.specs.declared.command.Command.{Command}
+use Rattle.commands.specs.declared.command.Padded.{Padded}
 use Rattle.commands.specs.declared.command.Command.TheVariants.{Root, Scan, Meet, Join, Align, Repeat, Load, Mul, Add, Sum, Write}
 use Rattle.commands.specs.Bytes.{bytes, operands}
 use Rattle.commands.specs.Held.{streams_held, keys_held}
@@ -20,9 +23,21 @@ spread_all zero (x ∷ xs) h = absurd (omega arith)
 spread_all (suc n) [] h = absurd (omega arith)
 spread_all (suc n) (x ∷ xs) h = ap (λ ys. x ∷ ys) (spread_shift n 0 x xs ∙ spread_all n xs (omega arith))
 
--- the byte k and its n operands, where these are all
-pub spread_operands : (k n op : ℕ) (xs : List ℕ) → op ≡ k → operands k ≡ Some n → operands op ≡ Some (length xs) → k ∷ spread n 0 xs ≡ op ∷ xs
-spread_operands k n op xs e o p = let q : length xs ≡ n = cc in ap (λ ys. k ∷ ys) (spread_all n xs q) ∙ ap (λ b. b ∷ xs) (sym e)
+-- those that stand first, one by one
+spread_front : (n : ℕ) (xs rest : List ℕ) → length xs ≡ n → spread n 0 (xs ++ rest) ≡ xs
+spread_front zero [] rest h = refl
+spread_front zero (x ∷ xs) rest h = absurd (omega arith)
+spread_front (suc n) [] rest h = absurd (omega arith)
+spread_front (suc n) (x ∷ xs) rest h = ap (λ ys. x ∷ ys) (spread_shift n 0 x (xs ++ rest) ∙ spread_front n xs rest (omega arith))
+
+-- rows of one length are equal where their bytes are
+whole_is : (n : ℕ) {xs ys : List ℕ} (p : length xs ≡ n) (q : length ys ≡ n) → xs ≡ ys → ◌≡◌ {A = Padded n} (record { bytes = xs; whole = p }) (record { bytes = ys; whole = q })
+whole_is n {xs} p q e =
+    let P : List ℕ → Type 0 = λ zs. (h : length zs ≡ n) → ◌≡◌ {A = Padded n} (record { bytes = xs; whole = p }) (record { bytes = zs; whole = h }) in
+    subst P e (λ h. ap (λ w. record { bytes = xs; whole = w }) (ℕ_set _ _ p h)) q
+
+pub padded_is : {n : ℕ} (x y : Padded n) → x.bytes ≡ y.bytes → x ≡ y
+padded_is {n} x y e = whole_is n x.whole y.whole e
 
 -- the byte of a command says how many operands follow
 operands_of : (c : Command) (rest : List ℕ) → (n : ℕ) × (operands (get_or (bytes c ++ rest) 0 0) ≡ Some n) × (length (bytes c) ≡ n + 1)
@@ -36,7 +51,8 @@ operands_of (Load t r out) rest = (3, refl, refl)
 operands_of (Mul a b out) rest = (3, refl, refl)
 operands_of (Add a b out) rest = (3, refl, refl)
 operands_of (Sum a out) rest = (2, refl, refl)
-operands_of (Write d v zs ks) rest = (9, refl, refl)
+operands_of (Write d v zs ks) rest =
+    let n : length (zs.bytes ++ ks.bytes) ≡ 7 = omega (arith, length-append zs.bytes ks.bytes, zs.whole, ks.whole) in (9, refl, ap (λ k. suc (suc (suc k))) n)
 
 -- bytes that are too short for their first byte begin with no command
 pub cut_off : (s : List ℕ) (n : ℕ) → operands (get_or s 0 0) ≡ Some n → length s ≤ n → (c : Command) (rest : List ℕ) → s ≡ bytes c ++ rest → ⊥
@@ -69,7 +85,13 @@ picked_is (Load t r out) rest = refl
 picked_is (Mul a b out) rest = refl
 picked_is (Add a b out) rest = refl
 picked_is (Sum a out) rest = refl
-picked_is (Write d v zs ks) rest = refl
+picked_is (Write d v zs ks) rest =
+    let tail = (zs.bytes ++ ks.bytes) ++ rest in
+    let e = append_assoc zs.bytes ks.bytes rest in
+    let a : streams_held tail ≡ zs = padded_is _ zs (ap (spread 4 0) e ∙ spread_front 4 zs.bytes (ks.bytes ++ rest) zs.whole) in
+    let b : keys_held (drop 4 tail) ≡ ks =
+    padded_is _ ks (ap (λ x. spread 3 0 (drop 4 x)) e ∙ ap (spread 3 0) (drop_at zs.bytes (ks.bytes ++ rest) 4 zs.whole) ∙ spread_front 3 ks.bytes rest ks.whole) in
+    ap (λ z. Write d v z (keys_held (drop 4 tail))) a ∙ ap (Write d v zs) b
 
 -- no command's bytes begin with another's
 pub prefix_free : (c d : Command) (p q : List ℕ) → bytes c ++ p ≡ bytes d ++ q → c ≡ d

@@ -1,18 +1,15 @@
 -- The bytes of a command as it is held, and what stands at the front of some bytes. Assumes nothing.
-use Rattle.std.specs.Prelude.{◌≡◌, ℕ, ◌<◌, ◌≤◌, cond, List, [], ◌∷◌, ◌++◌, length, drop, Some, None, Option, ◌==◌, ◌≢◌}
+use Rattle.std.specs.Prelude.{◌≡◌, ℕ, ◌<◌, ◌≤◌, cond, List, [], ◌∷◌, ◌++◌, length, drop, Some, None, Option, Ok, Err, Result, ◌==◌, ◌≢◌}
 use Rattle.commands.specs.declared.command.Command.{Command}
 use Rattle.commands.specs.declared.command.Command.TheVariants.{Root, Scan, Meet, Join, Align, Repeat, Load, Mul, Add, Sum, Write}
-use Rattle.commands.specs.declared.command.DepthStreams.{DepthStreams}
-use Rattle.commands.specs.declared.command.KeyDepths.{KeyDepths}
-use Rattle.commands.specs.declared.command.Decoded.{Decoded}
-use Rattle.commands.specs.declared.command.Decoded.TheVariants.{End, Unknown}
-use Rattle.commands.specs.declared.command.Decoded.TheVariants
+use Rattle.commands.specs.declared.command.Padded.{Padded}
+use Rattle.commands.specs.declared.command.UnknownCommand.{UnknownCommand}
 
-abbrev pub depth_streams : DepthStreams → List ℕ
-depth_streams z = z.first ∷ z.second ∷ z.third ∷ z.fourth ∷ []
+abbrev pub depth_streams : Padded 4 → List ℕ
+depth_streams z = z.bytes
 
-abbrev pub key_depths : KeyDepths → List ℕ
-key_depths k = k.first ∷ k.second ∷ k.third ∷ []
+abbrev pub key_depths : Padded 3 → List ℕ
+key_depths k = k.bytes
 
 -- the byte of the block, then a byte for each operand
 abbrev pub bytes : Command → List ℕ
@@ -36,14 +33,14 @@ operands b =
     (cond (b == 0x09) (Some 3) (cond (b == 0x0A) (Some 2) (cond (b == 0x0B) (Some 9) None))))))))))
 
 -- The bytes begin with a command; or with the end; or with neither, and then with no command whatever its operands.
-abbrev pub Begins : List ℕ → Decoded → Type 0
-Begins s (TheVariants.Command c) = (rest : List ℕ) × (s ≡ bytes c ++ rest)
-Begins s End = (rest : List ℕ) × (s ≡ 0x00 ∷ rest)
-Begins s Unknown = ((c : Command) (rest : List ℕ) → s ≢ bytes c ++ rest) × ((rest : List ℕ) → s ≢ 0x00 ∷ rest)
+abbrev pub Begins : List ℕ → Result (Option Command) UnknownCommand → Type 0
+Begins s (Ok (Some c)) = (rest : List ℕ) × (s ≡ bytes c ++ rest)
+Begins s (Ok None) = (rest : List ℕ) × (s ≡ 0x00 ∷ rest)
+Begins s (Err e) = ((c : Command) (rest : List ℕ) → s ≢ bytes c ++ rest) × ((rest : List ℕ) → s ≢ 0x00 ∷ rest)
 
 -- A command is read back, whatever stands behind its bytes.
-abbrev pub Rereads : List ℕ → Decoded → Type 0
-Rereads s r = (c : Command) (rest : List ℕ) → s ≡ bytes c ++ rest → r ≡ TheVariants.Command c
+abbrev pub Rereads : List ℕ → Result (Option Command) UnknownCommand → Type 0
+Rereads s r = (c : Command) (rest : List ℕ) → s ≡ bytes c ++ rest → r ≡ Ok (Some c)
 
 -- A command is written to the front of an area, whose rest stays; or it is longer than the area, and nothing changes.
 abbrev pub Encoded : Command → List ℕ → Option ℕ → List ℕ → Type 0

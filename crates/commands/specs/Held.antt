@@ -1,21 +1,19 @@
 -- A command as the model has it, and as it is held. Assumes nothing.
-use Rattle.std.specs.Prelude.{◌≡◌, ℕ, cond, List, [], ◌∷◌, ◌++◌, take, ◌==◌, slice_index}
+use Rattle.std.specs.Prelude.{◌≡◌, ℕ, cond, List, [], ◌∷◌, ◌++◌, take, Ok, Some, Option, Result, ◌==◌, slice_index, refl}
 use Rattle.model.specs.Commands as model
 use Rattle.model.specs.Commands.{bytes_of, filled}
 use Rattle.model.specs.Bounds.{Small}
 use Rattle.commands.specs.declared.command.Command.{Command}
 use Rattle.commands.specs.declared.command.Command.TheVariants.{Root, Scan, Meet, Join, Align, Repeat, Load, Mul, Add, Sum, Write}
-use Rattle.commands.specs.declared.command.DepthStreams.{DepthStreams}
-use Rattle.commands.specs.declared.command.KeyDepths.{KeyDepths}
-use Rattle.commands.specs.declared.command.Decoded.{Decoded}
-use Rattle.commands.specs.declared.command.Decoded.TheVariants
+use Rattle.commands.specs.declared.command.Padded.{Padded}
+use Rattle.commands.specs.declared.command.UnknownCommand.{UnknownCommand}
 use Rattle.commands.specs.Bytes.{bytes, depth_streams, key_depths}
 
-abbrev pub streams_held : List ℕ → DepthStreams
-streams_held xs = record { first = slice_index xs 0; second = slice_index xs 1; third = slice_index xs 2; fourth = slice_index xs 3 }
+abbrev pub streams_held : List ℕ → Padded 4
+streams_held xs = record { bytes = slice_index xs 0 ∷ slice_index xs 1 ∷ slice_index xs 2 ∷ slice_index xs 3 ∷ []; whole = refl }
 
-abbrev pub keys_held : List ℕ → KeyDepths
-keys_held xs = record { first = slice_index xs 0; second = slice_index xs 1; third = slice_index xs 2 }
+abbrev pub keys_held : List ℕ → Padded 3
+keys_held xs = record { bytes = slice_index xs 0 ∷ slice_index xs 1 ∷ slice_index xs 2 ∷ []; whole = refl }
 
 -- the coordinate streams and keys of a WRITE are filled up
 abbrev pub held : model.Command → Command
@@ -56,6 +54,6 @@ pub record Kept (m : model.Command) : Type 0 where
   pub again : Small m → meant (held m) ≡ m
 
 -- What is read of bytes that begin with a small command of the model is that command.
-abbrev pub ReadsModel : List ℕ → Decoded → Type 0
+abbrev pub ReadsModel : List ℕ → Result (Option Command) UnknownCommand → Type 0
 ReadsModel s r =
-    (m : model.Command) (rest : List ℕ) → Small m → s ≡ bytes_of m ++ rest → (r ≡ TheVariants.Command (held m)) × (meant (held m) ≡ m)
+    (m : model.Command) (rest : List ℕ) → Small m → s ≡ bytes_of m ++ rest → (r ≡ Ok (Some (held m))) × (meant (held m) ≡ m)

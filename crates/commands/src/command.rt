@@ -1,4 +1,9 @@
 // One block of a graph with its operands; streams go by their numbers.
+ghost use Rattle.std.specs.Prelude.{◌≡◌, length};
+
+use std::error::Error;
+use std::fmt;
+
 #[derive(Clone, Copy, PartialEq, Eq, Debug)]
 pub enum Command {
     Root {
@@ -59,29 +64,27 @@ pub enum Command {
     },
 }
 
-// The coordinate streams of the depths, the outermost first; FF past the last.
+// As many bytes as a WRITE has of a sort, filled up where fewer are meant.
 #[derive(Clone, Copy, PartialEq, Eq, Debug)]
-pub struct DepthStreams {
-    pub first: u8,
-    pub second: u8,
-    pub third: u8,
-    pub fourth: u8,
+pub struct Padded<const N: usize> {
+    pub bytes: [u8; N],
+    ghost whole: { length bytes ≡ N },
 }
+
+// The coordinate streams of the depths, the outermost first; FF past the last.
+pub type DepthStreams = Padded<4>;
 
 // For each left variable its depth, from 1; 00 past the last.
+pub type KeyDepths = Padded<3>;
+
+// No command begins so, or its operands are cut off.
 #[derive(Clone, Copy, PartialEq, Eq, Debug)]
-pub struct KeyDepths {
-    pub first: u8,
-    pub second: u8,
-    pub third: u8,
+pub struct UnknownCommand;
+
+impl fmt::Display for UnknownCommand {
+    fn fmt<W: fmt::Write>(&self, f: &mut fmt::Formatter<W>) -> fmt::Result {
+        f.write_str("bytes that begin with no command")
+    }
 }
 
-// What stands at the front of some bytes.
-#[derive(Clone, Copy, PartialEq, Eq, Debug)]
-pub enum Decoded {
-    Command(Command),
-    // the end of a graph
-    End,
-    // no command begins so, or its operands are cut off
-    Unknown,
-}
+impl Error for UnknownCommand {}

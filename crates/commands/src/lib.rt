@@ -5,5 +5,5 @@ mod command;
 mod decoding;
 mod encoding;
 
-pub use command::{Command, Decoded, DepthStreams, KeyDepths};
+pub use command::{Command, DepthStreams, KeyDepths, Padded, UnknownCommand};
 pub use decoding::decode;

@@ -3,19 +3,19 @@
 
 #[cfg(test)]
 mod tests {
-    use commands::{Command, Decoded, DepthStreams, KeyDepths, decode};
+    use commands::{Command, DepthStreams, KeyDepths, UnknownCommand, decode};
 
     #[test]
     fn one_byte(rt: HostRuntime) {
         for first in 0..=255u8 {
             let expected = if first == 0 {
-                Decoded::End
+                Ok(None)
             } else {
-                Decoded::Unknown
+                Err(UnknownCommand)
             };
             assert_eq!(rt; decode(&[first]), expected);
         }
-        assert_eq!(rt; decode(&[]), Decoded::Unknown);
+        assert_eq!(rt; decode(&[]), Err(UnknownCommand));
     }
 
     #[test]
@@ -23,9 +23,9 @@ mod tests {
         for first in 0..=255u8 {
             for second in 0..=255u8 {
                 let expected = match first {
-                    0 => Decoded::End,
-                    1 => Decoded::Command(Command::Root { out: second }),
-                    _ => Decoded::Unknown,
+                    0 => Ok(None),
+                    1 => Ok(Some(Command::Root { out: second })),
+                    _ => Err(UnknownCommand),
                 };
                 assert_eq!(rt; decode(&[first, second]), expected);
             }
@@ -43,22 +43,15 @@ mod tests {
         };
         assert_eq!(rt;
             decode(&[0x02, 0x01, 0x00, 0x01, 0x04, 0x05, 0x03]),
-            Decoded::Command(scan)
+            Ok(Some(scan))
         );
         let write = Command::Write {
             depth: 0,
             values: 12,
             coordinates: DepthStreams {
-                first: 0xFF,
-                second: 0xFF,
-                third: 0xFF,
-                fourth: 0xFF,
+                bytes: [0xFF, 0xFF, 0xFF, 0xFF],
             },
-            keys: KeyDepths {
-                first: 0,
-                second: 0,
-                third: 0,
-            },
+            keys: KeyDepths { bytes: [0, 0, 0] },
         };
         let bytes = [0x0B, 0x00, 0x0C, 0xFF, 0xFF, 0xFF, 0xFF, 0x00, 0x00, 0x00];
         let mut area = [0u8; 10];
@@ -67,8 +60,8 @@ mod tests {
         assert_eq!(rt; write.encode(&mut area), Some(10));
         assert_eq!(rt; area, bytes);
         assert_eq!(rt; write.name(), "WRITE");
-        assert_eq!(rt; decode(&bytes[0..9]), Decoded::Unknown);
-        assert_eq!(rt; decode(&area), Decoded::Command(write));
+        assert_eq!(rt; decode(&bytes[0..9]), Err(UnknownCommand));
+        assert_eq!(rt; decode(&area), Ok(Some(write)));
     }
 }
 

@@ -1,5 +1,5 @@
 // One command of each block, to its bytes and back.
-use commands::{Command, Decoded, DepthStreams, KeyDepths, decode};
+use commands::{Command, DepthStreams, KeyDepths, UnknownCommand, decode};
 use std::process::Abort;
 use std::test::Fail;
 
@@ -14,16 +14,16 @@ fn there_and_back(rt: &impl Abort, command: Command, name: &str, bytes: &[u8]) {
     assert_eq!(rt; command.encode(&mut area), Some(len), "{name}");
     assert_eq!(rt; &area[0..len], bytes, "{name}");
     assert_eq!(rt; &area[len..12], &before[len..12], "{name}");
-    assert_eq!(rt; decode(&area), Decoded::Command(command), "{name}");
+    assert_eq!(rt; decode(&area), Ok(Some(command)), "{name}");
 }
 
 // The bytes are those of the command, and of none where the last is missing.
 fn decodes(rt: &impl Abort, command: Command, name: &str, bytes: &[u8]) {
     assert!(rt; 0 < bytes.len(), "{name}");
-    assert_eq!(rt; decode(bytes), Decoded::Command(command), "{name}");
+    assert_eq!(rt; decode(bytes), Ok(Some(command)), "{name}");
     assert_eq!(rt;
         decode(&bytes[0..bytes.len() - 1]),
-        Decoded::Unknown,
+        Err(UnknownCommand),
         "{name}"
     );
 }
@@ -119,16 +119,9 @@ fn writes(rt: HostRuntime) -> Result<(), Fail> {
         depth: 3,
         values: 12,
         coordinates: DepthStreams {
-            first: 4,
-            second: 5,
-            third: 6,
-            fourth: 0xFF,
+            bytes: [4, 5, 6, 0xFF],
         },
-        keys: KeyDepths {
-            first: 3,
-            second: 1,
-            third: 0,
-        },
+        keys: KeyDepths { bytes: [3, 1, 0] },
     };
     stands_for(
         &rt,

@@ -6,3 +6,4 @@ pub mod Aligned
 pub mod Repeated
 pub mod Cut
 pub mod Scanned
+pub mod Asked

@@ -3,7 +3,6 @@
 
 mod aligns;
 mod merges;
-mod recording;
 mod roots;
 mod scans;
 

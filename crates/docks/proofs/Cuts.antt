@@ -1,6 +1,7 @@
 -- Texts cut at a byte: what a search for it finds. Assumes nothing.
-use Rattle.std.proofs.Common.{◌≡◌, ℕ, suc, ◌+◌, ◌<◌, Bool, true, false, cond, not, eqb, List, [], ◌∷◌, length, take, drop, Some, None, Err, sym, refl, ap, ◌∙◌, one-add, arith}
-use Rattle.std.proofs.lemmas.Bool.{true≢false}
+use Rattle.std.proofs.Common.{◌≡◌, ℕ, suc, ◌+◌, ◌<◌, ◌≤◌, Bool, true, false, cond, not, eqb, List, [], ◌∷◌, length, take, drop, Some, None, Err, sym, refl, ap, ◌∙◌, one-add, arith}
+use Rattle.std.proofs.lemmas.Bool.{true≢false, ltb-true, ltb-false}
+use Rattle.std.specs.List.{position, position_or_len}
 use Rattle.docks.specs.Tables.{onto, lines, fields, of_fields}
 use Rattle.docks.specs.Pieces.{before, Cut}
 use Rattle.std.proofs.lemmas.List.{take_all, drop_all, length-drop}
@@ -85,3 +86,19 @@ module _ (bs : List ℕ) where
       four_fields s h =
           ap of_fields (next_field bs p first ∙ ap (λ fs. p.0 ∷ fs) (next_field p.1 q second ∙ ap (λ fs. q.0 ∷ fs) (next_field q.1 s h)))
           ∙ too_many p.0 q.0 s.0 s.1
+
+-- what a position says of the test that found it, or of the one that did not
+none_when : (t : Bool) (n : ℕ) → None ≡ cond t (Some n) None → t ≡ false
+none_when true n h = let z : ◌≡◌ {A = ℕ} 0 1 = cc in absurd (omega arith)
+none_when false n h = refl
+
+some_when : (t : Bool) (n k : ℕ) → Some k ≡ cond t (Some n) None → (t ≡ true) × (k ≡ n)
+some_when true n k h = (refl, cc)
+some_when false n k h = let z : ◌≡◌ {A = ℕ} 0 1 = cc in absurd (omega arith)
+
+module _ {X : Type 0} (p : X → Bool) (xs : List X) where
+  pub sought_none : None ≡ position p xs → length xs ≤ position_or_len p xs
+  sought_none h = ltb-false _ _ (none_when _ _ h)
+
+  pub sought_some : (n : ℕ) → Some n ≡ position p xs → (n ≡ position_or_len p xs) × (position_or_len p xs < length xs)
+  sought_some n h = let w = some_when _ _ n h in (w.1, ltb-true _ _ w.0)

@@ -4,8 +4,6 @@ use Rattle.model.specs.Semirings.{Algebra, dot}
 use Rattle.semiring.specs.Kinds.{count}
 use Rattle.semiring.specs.declared.count.Count.{Count}
 use Rattle.docks.specs.Tables.{Entry}
-use Rattle.docks.specs.declared.side.Side.{Side}
-use Rattle.docks.specs.declared.side.Side.TheVariants.{In, Out}
 
 -- A leg runs unless its time is none.
 abbrev pub runs : ℕ → Bool
@@ -15,17 +13,13 @@ runs t = not (t == 4294967295)
 abbrev pub counts_once : ℕ → Count
 counts_once t = count (cond (runs t) 1 0)
 
-abbrev pub leg_at : Side → Entry → ℕ
-leg_at In e = e.leg_in
-leg_at Out e = e.leg_out
-
--- a row of legs, each worth a value of a kind
-abbrev pub row : {V : Type 0} → (ℕ → V) → Side → List Entry → List V
-row worth s es = map (λ e. worth (leg_at s e)) es
+-- a row of legs, one of each entry, each worth a value of a kind
+abbrev pub row : {V : Type 0} → (ℕ → V) → (Entry → ℕ) → List Entry → List V
+row worth leg es = map (λ e. worth (leg e)) es
 
 -- the sum over all docks of the product of their two legs
 abbrev pub over_docks : {V : Type 0} → Algebra V → (ℕ → V) → List Entry → V
-over_docks A worth es = dot A (row worth In es) (row worth Out es)
+over_docks A worth es = dot A (row worth (λ e. e.leg_in) es) (row worth (λ e. e.leg_out) es)
 
 -- A dock connects where both its legs run.
 abbrev pub connects : Entry → Bool

@@ -1,12 +1,11 @@
 -- A text table of cross docks: its lines, what a line says, and what the whole table says. Assumes nothing.
-use Rattle.std.specs.Prelude.{ℕ, ◌+◌, ◌-◌, ◌*◌, Bool, true, cond, ◌&&◌, ◌||◌, List, [], ◌∷◌, length, Ok, Err, fold, Result, ◌==◌, nat_le, nat_lt, slice_index}
+use Rattle.std.specs.Prelude.{ℕ, ◌+◌, ◌-◌, ◌*◌, Bool, cond, ◌&&◌, ◌||◌, List, [], ◌∷◌, length, Ok, Err, fold, Result, ◌==◌, nat_le, nat_lt, slice_index}
 use Rattle.std.specs.Result.{result_map_both}
+use Rattle.std.specs.List.{list_all}
 use Rattle.std.specs.Char.{is_ascii_digit, is_ascii_alphanumeric}
 use Rattle.docks.specs.declared.fault.TableFault.{TableFault}
 use Rattle.docks.specs.declared.fault.TableFault.TheVariants.{Fields, Name, Number, TooLarge, TooMany}
 use Rattle.docks.specs.declared.fault.TableError.{TableError}
-use Rattle.docks.specs.declared.class.Class.{Class}
-use Rattle.docks.specs.declared.class.Class.TheVariants.{Digit, Letter}
 
 -- a byte put before the first piece
 abbrev pub onto : ℕ → List (List ℕ) → List (List ℕ)
@@ -23,22 +22,17 @@ abbrev pub fields : List ℕ → List (List ℕ)
 fields [] = [] ∷ []
 fields (b ∷ bs) = cond (b == 32) ([] ∷ fields bs) (onto b (fields bs))
 
--- the bytes of a class: digits; or letters, digits, '_' and '-'
-abbrev pub in_class : Class → ℕ → Bool
-in_class Digit b = is_ascii_digit b
-in_class Letter b = is_ascii_alphanumeric b || (b == 95 || b == 45)
-
-abbrev pub all_in : Class → List ℕ → Bool
-all_in k [] = true
-all_in k (b ∷ bs) = in_class k b && all_in k bs
+-- the bytes of a name: letters, digits, '_' and '-'
+abbrev pub is_name_byte : ℕ → Bool
+is_name_byte b = is_ascii_alphanumeric b || (b == 95 || b == 45)
 
 -- A name has 1 to 16 bytes.
 abbrev pub is_name : List ℕ → Bool
-is_name bs = nat_lt 0 (length bs) && (nat_le (length bs) 16 && all_in Letter bs)
+is_name bs = nat_lt 0 (length bs) && (nat_le (length bs) 16 && list_all is_name_byte bs)
 
 -- A number is digits, of which the first of several is not '0', 48.
 abbrev pub is_number : List ℕ → Bool
-is_number bs = all_in Digit bs && (length bs == 1 || nat_lt 48 (slice_index bs 0))
+is_number bs = list_all is_ascii_digit bs && (length bs == 1 || nat_lt 48 (slice_index bs 0))
 
 abbrev pub decimal : List ℕ → ℕ
 decimal bs = fold (λ n b. 10 * n + (b - 48)) 0 bs

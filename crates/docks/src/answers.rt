@@ -1,22 +1,25 @@
 // What is asked of a table, answered by the sum over its docks in each kind.
-ghost use Rattle.std.specs.Prelude.{◌≡◌, ◌<◌, ◌≤◌, ◌++◌, map, length, drop, Decides, count_by};
+ghost use Rattle.std.specs.Prelude.{◌≡◌, ℕ, ◌<◌, ◌≤◌, ◌++◌, map, length, drop, Decides, count_by};
+ghost use Rattle.std.specs.Fn.{FnReturnsAt};
 ghost use Rattle.semiring.specs.Kinds.{counts, time, times, flags};
 ghost use Rattle.docks.specs.Answers.{row, runs, counts_once, over_docks, connects, totals, Least, FirstLeast};
+ghost use Rattle.docks.specs.Tables.{Entry};
 ghost use Rattle.docks.specs.Views.{entry_of, entries};
 
 use crate::dock::Dock;
 use crate::legs::Leg;
-use crate::side::Side;
-use crate::table::Table;
+use crate::table::{MOST, Table};
 use semiring::{Count, Semiring, Time, dot};
 
-// The legs on one side of some docks, stored as values of a kind at the front of a row.
-fn fill<V: Semiring + Leg>(docks: &[Dock], side: Side, out: &mut [V::Plain])
-    requires { length docks.now ≤ length out.old }
-    ensures { out.new ≡ map V.stored (row V.worth side (map entry_of docks.now)) ++ drop (length docks.now) out.old }
+// One leg of each of some docks, stored as a value of a kind, at the front of a row.
+fn fill<V: Semiring + Leg, F: Fn(&Dock) -> Time>(docks: &[Dock], leg: F, out: &mut [V::Plain])
+    requires callable { F.IsAlwaysCallable leg }
+    requires room { length docks.now ≤ length out.old }
+    ensures { (time_of : Entry → ℕ) → ((d : Dock) (t : Time) → FnReturnsAt F.Fn leg d t → t.value ≡ time_of (entry_of d))
+        → out.new ≡ map V.stored (row V.worth time_of (map entry_of docks.now)) ++ drop (length docks.now) out.old }
 {
     for (i, dock) in docks.iter().enumerate() {
-        out[i] = V::leg(dock.leg(side)).plain();
+        out[i] = V::leg(leg(dock)).plain();
     }
 }
 
@@ -31,12 +34,9 @@ fn answer<V: Semiring + Leg>(
     ensures { result ≡ over_docks V.algebra V.worth (map entry_of docks.now) }
 {
     let n = docks.len();
-    fill::<V>(docks, Side::In, legs_in);
-    fill::<V>(docks, Side::Out, legs_out);
-    match dot(&legs_in[0..n], &legs_out[0..n]) {
-        Some(sum) => sum,
-        None => unreachable(),
-    }
+    fill::<V, _>(docks, |dock| dock.leg_in, legs_in);
+    fill::<V, _>(docks, |dock| dock.leg_out, legs_out);
+    dot(&legs_in[..n], &legs_out[..n]).unwrap()
 }
 
 // The least time of a way over some dock, or none.
@@ -44,7 +44,7 @@ pub fn least_time(table: &Table) -> Time
     ensures sum { result ≡ over_docks times time (entries table.now) }
     ensures least { Least (totals (entries table.now)) result.value }
 {
-    answer(table.docks(), &mut [0; 64], &mut [0; 64])
+    answer(table.docks(), &mut [0; MOST], &mut [0; MOST])
 }
 
 // How many docks connect.
@@ -52,7 +52,7 @@ pub fn count_docks(table: &Table) -> Count
     ensures sum { result ≡ over_docks counts counts_once (entries table.now) }
     ensures number { result.value ≡ count_by connects (entries table.now) }
 {
-    answer(table.docks(), &mut [0; 64], &mut [0; 64])
+    answer(table.docks(), &mut [0; MOST], &mut [0; MOST])
 }
 
 // Whether any dock connects.
@@ -60,7 +60,7 @@ pub fn any_runs(table: &Table) -> bool
     ensures sum { result ≡ over_docks flags runs (entries table.now) }
     ensures any { Decides result (0 < count_by connects (entries table.now)) }
 {
-    answer(table.docks(), &mut [false; 64], &mut [false; 64])
+    answer(table.docks(), &mut [false; MOST], &mut [false; MOST])
 }
 
 // The first dock with the least time, or none where no way over a dock takes a time.
@@ -71,10 +71,5 @@ pub fn best_dock(table: &Table) -> Option<usize>
     if least.is_zero() {
         return None;
     }
-    for (i, dock) in table.docks().iter().enumerate() {
-        if dock.total() == u64::from(least.value) {
-            return Some(i);
-        }
-    }
-    None
+    table.docks().iter().position(|dock| dock.time() == least)
 }

@@ -1,47 +1,34 @@
 // What a leg is worth in each kind of value.
-ghost use Rattle.std.specs.Prelude.{◌≡◌, ℕ, ◌+◌};
+ghost use Rattle.std.specs.Prelude.{◌≡◌, ℕ, ◌+◌, min};
 ghost use Rattle.semiring.specs.Kinds.{time};
-ghost use Rattle.docks.specs.Answers.{runs, counts_once, leg_at};
-ghost use Rattle.docks.specs.Views.{entry_of};
-ghost use Rattle.docks.specs.declared.side.Side.TheVariants.{In, Out};
+ghost use Rattle.docks.specs.Answers.{runs, counts_once};
 
 use crate::dock::Dock;
-use crate::fields::NONE;
-use crate::side::Side;
-use semiring::{Count, Time};
+use semiring::{Count, Semiring, Time};
 
 impl Dock {
-    // The time of one of its legs.
-    pub(crate) fn leg(&self, side: Side) -> u32
-        ensures { result ≡ leg_at side (entry_of self.now) }
+    // The time of the way over it, or none.
+    pub(crate) fn time(&self) -> Time
+        ensures { result.value ≡ min (self.now.leg_in.value + self.now.leg_out.value) 4294967295 }
     {
-        match side {
-            Side::In => self.leg_in,
-            Side::Out => self.leg_out,
-        }
-    }
-
-    // What the way over it takes, of two times that may be none.
-    pub(crate) fn total(&self) -> u64
-        ensures { result ≡ leg_at In (entry_of self.now) + leg_at Out (entry_of self.now) }
-    {
-        u64::from(self.leg_in) + u64::from(self.leg_out)
+        self.leg_in.mul(self.leg_out)
     }
 }
 
-pub trait Leg: Sized {
+// A kind that a time is worth a value of. The contracts over all docks name the function, which `From` does not give.
+pub(crate) trait Leg: Sized {
     ghost worth: { ℕ → Self };
 
-    fn leg(word: u32) -> Self
-        ensures { result ≡ worth word };
+    fn leg(time: Time) -> Self
+        ensures { result ≡ worth time.value };
 }
 
 // A time is itself.
 impl Leg for Time {
     ghost worth = { time };
 
-    fn leg(word: u32) -> Time {
-        Time::new(word)
+    fn leg(time: Time) -> Time {
+        time
     }
 }
 
@@ -49,12 +36,8 @@ impl Leg for Time {
 impl Leg for Count {
     ghost worth = { counts_once };
 
-    fn leg(word: u32) -> Count {
-        if word == NONE {
-            Count::new(0)
-        } else {
-            Count::new(1)
-        }
+    fn leg(time: Time) -> Count {
+        Count::new(u32::from(bool::leg(time)))
     }
 }
 
@@ -62,7 +45,7 @@ impl Leg for Count {
 impl Leg for bool {
     ghost worth = { runs };
 
-    fn leg(word: u32) -> bool {
-        word != NONE
+    fn leg(time: Time) -> bool {
+        !time.is_zero()
     }
 }

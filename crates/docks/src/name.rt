@@ -1,11 +1,16 @@
 // The name of a dock, held in place.
-ghost use Rattle.std.specs.Prelude.{◌≤◌};
+use arrayvec::ArrayString;
+use std::fmt;
 
 mod methods;
 
-#[derive(Clone, Copy)]
+#[derive(Clone, Copy, Default, PartialEq, Eq, Debug)]
 pub struct Name {
-    bytes: [u8; 16],
-    len: usize,
-    ghost short: { len ≤ 16 },
+    text: ArrayString<16>,
+}
+
+impl fmt::Display for Name {
+    fn fmt<W: fmt::Write>(&self, f: &mut fmt::Formatter<W>) -> fmt::Result {
+        f.write_str(self.text.as_str())
+    }
 }

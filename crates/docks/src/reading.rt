@@ -9,9 +9,7 @@ use crate::dock::Dock;
 use crate::fault::{TableError, TableFault};
 use crate::fields::{read_leg, split};
 use crate::name::Name;
-use crate::table::Table;
-
-const MOST: usize = 64;
+use crate::table::{MOST, Table};
 
 // What one line says.
 fn read_line(line: &[u8]) -> Result<Dock, TableFault>
@@ -38,13 +36,10 @@ fn read_numbered(number: usize, line: &[u8]) -> Result<Dock, TableError>
             fault: TableFault::TooMany,
         });
     }
-    match read_line(line) {
-        Ok(dock) => Ok(dock),
-        Err(fault) => Err(TableError {
-            line: number,
-            fault,
-        }),
-    }
+    read_line(line).map_err(|fault| TableError {
+        line: number,
+        fault,
+    })
 }
 
 // The docks of all lines in order, or the first line at fault.

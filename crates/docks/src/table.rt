@@ -1,14 +1,13 @@
-// The docks of a table, at most 64, held in place.
-ghost use Rattle.std.specs.Prelude.{◌≡◌, ◌≤◌, length};
-
+// The docks of a table, held in place.
 use crate::dock::Dock;
+use arrayvec::ArrayVec;
 
 mod methods;
 
-#[derive(Clone, Copy)]
+// A table has at most so many docks.
+pub const MOST: usize = 64;
+
+#[derive(Clone, Default, Drop)]
 pub struct Table {
-    docks: [Dock; 64],
-    count: usize,
-    ghost room: { length docks ≡ 64 },
-    ghost fits: { count ≤ 64 },
+    docks: ArrayVec<Dock, MOST>,
 }

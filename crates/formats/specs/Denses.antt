@@ -7,7 +7,8 @@ use Rattle.model.specs.Formats.{LevelSize, Listed, dense_need, dense_level, dens
 use Rattle.formats.specs.Builds.{Built}
 use Rattle.formats.specs.Rows.{rows_lawful, rows_includes}
 
-positive : (j f e : ℕ) → j < f * e → 0 < e
+-- a product that is above a number has no factor 0
+pub positive : (j f e : ℕ) → j < f * e → 0 < e
 positive j f zero h = omega arith
 positive j f (suc e) h = omega arith
 

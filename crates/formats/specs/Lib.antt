@@ -1,4 +1,5 @@
 pub mod Sizes
+pub mod Entries
 pub mod Builds
 pub mod Lists
 pub mod Sorts

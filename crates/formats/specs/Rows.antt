@@ -1,8 +1,10 @@
 -- What fibers made from lengths and items answer, and when they are a lawful level.
-use Rattle.std.specs.Prelude.{◌≡◌, ℕ, ◌<◌, ◌≤◌, List, [], map, length, get_or, Some, None, slice_index, slice_index_or}
-use Rattle.std.proofs.Common.{sym, ap, ◌∙◌, arith}
+use Rattle.std.specs.Prelude.{◌≡◌, ℕ, ◌<◌, ◌≤◌, true, false, Option, List, [], map, length, get_or, Some, None, slice_index, slice_index_or, refl}
+use Rattle.std.proofs.Common.{ltb, sym, ap, ◌∙◌, ⊎_elim, arith}
+use Rattle.std.specs.Bool.{then_some}
 use Rattle.std.specs.List.{slice_get, range_with_len}
-use Rattle.std.specs.Option.{option_map}
+use Rattle.std.specs.Option.{is_some, option_map, IfSome}
+use Rattle.std.proofs.lemmas.Bool.{cases_lt, lt-ltb, le-ltb}
 use Rattle.std.proofs.lemmas.List.FromFn.{length-map-range_with_len, get_or-map-range_with_len}
 use Rattle.std.proofs.lemmas.List.{get_or_past, get_or-map, length-map, ext_get_or}
 use Rattle.std.proofs.lemmas.Option.{slice_get-get_or, slice_get_past}
@@ -41,6 +43,33 @@ module _ (f : ℕ) (len : ℕ → ℕ) (item : ℕ → ℕ → ℕ × ℕ) where
 
   pub rows_at_none : (p k : ℕ) → f ≤ p → None ≡ at_of (rows f len item) p k
   rows_at_none p k h = let n = rows_number in sym (ap (λ xs. slice_get xs k) (get_or_past (rows f len item) p [] (omega arith)))
+
+  -- an answer that hangs on a test
+  pub rows_count_tested : (p : ℕ) (o : Option ℕ) → o ≡ then_some (ltb p f) (len p) → o ≡ count_of (rows f len item) p
+  rows_count_tested p o e =
+      e
+      ∙ ⊎_elim
+      (λ h. ap (λ b. then_some b (len p)) (lt-ltb p f h) ∙ rows_count p h)
+      (λ h. ap (λ b. then_some b (len p)) (le-ltb p f h) ∙ rows_count_none p h)
+      (cases_lt p f)
+
+  rows_at_is : (p k : ℕ) (o : Option (ℕ × ℕ)) → p < f → k < len p → is_some o ≡ true → IfSome o (λ x. x ≡ item p k) → o ≡ at_of (rows f len item) p k
+  rows_at_is p k None h i e is = absurd (let z : ◌≡◌ {A = ℕ} 0 1 = cc in omega arith)
+  rows_at_is p k (Some x) h i e is = ap Some is ∙ rows_at p k h i
+
+  none_is : (o : Option (ℕ × ℕ)) → is_some o ≡ false → o ≡ None
+  none_is None e = refl
+  none_is (Some x) e = absurd (let z : ◌≡◌ {A = ℕ} 0 1 = cc in omega arith)
+
+  pub rows_at_tested : (p k : ℕ) (o : Option (ℕ × ℕ)) → p < f → is_some o ≡ ltb k (len p) → IfSome o (λ x. x ≡ item p k) → o ≡ at_of (rows f len item) p k
+  rows_at_tested p k o h e is =
+      ⊎_elim
+      (λ lt. rows_at_is p k o h lt (e ∙ lt-ltb k (len p) lt) is)
+      (λ ge. none_is o (e ∙ le-ltb k (len p) ge) ∙ rows_at_past p k h ge)
+      (cases_lt k (len p))
+
+  pub rows_at_no_fiber : (p k : ℕ) (o : Option (ℕ × ℕ)) → f ≤ p → is_some o ≡ ltb p f → o ≡ at_of (rows f len item) p k
+  rows_at_no_fiber p k o h e = none_is o (e ∙ le-ltb p f h) ∙ rows_at_none p k h
 
   pub rows_coords_long : (p : ℕ) → p < f → length (coords (fiber (rows f len item) p)) ≡ len p
   rows_coords_long p h = length-map (fiber (rows f len item) p) (λ x. x.0) ∙ rows_long p h

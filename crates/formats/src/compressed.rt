@@ -1,15 +1,18 @@
 // Compressed: the position where each fiber starts, and one more, then the coordinates.
-ghost use Rattle.std.specs.Prelude.{◌≡◌, take, MatchResult, OnOk, slice_index};
-ghost use Rattle.model.specs.Formats.{Listed, compressed_need, compressed_children, compressed_level};
+ghost use Rattle.std.specs.Prelude.{◌≡◌, ◌+◌, ◌-◌, ◌<◌, ◌≤◌, take, MatchOption, MatchResult, OnOk, slice_index};
+ghost use Rattle.model.specs.Formats.{Listed, compressed_need, compressed_children, compressed_level, position};
 ghost use Rattle.formats.specs.Sizes.{size_of};
+ghost use Rattle.formats.specs.Entries.{owners_of, coordinates_of};
 ghost use Rattle.formats.specs.Builds.{Built, Refused};
 ghost use Rattle.formats.specs.Lists.{CompressedWords, Laid};
 ghost use Rattle.formats.specs.Packs.{compressed_lawful};
 ghost use Rattle.std.proofs.Common.{rules};
 
-use crate::format::{Format, Short};
+use crate::entry::Entry;
+use crate::format::Format;
+use crate::short::Short;
 use crate::size::LevelSize;
-use crate::sorting::sort_by_owner;
+use crate::sorting::Lists;
 
 #[derive(Clone, Copy)]
 pub struct Compressed;
@@ -37,22 +40,17 @@ impl Format for Compressed {
         size.entries
     }
 
-    fn build(
-        size: LevelSize,
-        owners: &[u32],
-        coordinates: &[u32],
-        words: &mut [u32],
-    ) -> Result<(), Short>
-        requires { Listed (size_of size) owners.now coordinates.now }
-        ensures outcome { MatchResult result (λ _. Built (compressed_need (size_of size)) (CompressedWords (size_of size)) (compressed_level (size_of size)) owners.now coordinates.now words.old words.new) (λ e. Refused (compressed_need (size_of size)) e.need e.free words.old words.new) }
-        ensures exact { OnOk result (Laid (size_of size) owners.now coordinates.now (take (compressed_need (size_of size)) words.new)) }
+    fn build(size: LevelSize, entries: &[Entry], words: &mut [u32]) -> Result<(), Short>
+        requires { Listed (size_of size) (owners_of entries.now) (coordinates_of entries.now) }
+        ensures outcome { MatchResult result (λ _. Built (compressed_need (size_of size)) (CompressedWords (size_of size)) (compressed_level (size_of size)) (owners_of entries.now) (coordinates_of entries.now) words.old words.new) (λ e. Refused (compressed_need (size_of size)) e.need e.free words.old words.new) }
+        ensures exact { OnOk result (Laid (size_of size) (owners_of entries.now) (coordinates_of entries.now) (take (compressed_need (size_of size)) words.new)) }
     {
         let need = words_of(size);
         let free = words.len();
         if free < need {
             return Err(Short { need, free });
         }
-        sort_by_owner(size, owners, coordinates, words);
+        Lists { size, entries }.sort(words);
         Ok(())
     }
 
@@ -61,25 +59,30 @@ impl Format for Compressed {
     }
 
     fn count(size: LevelSize, words: &[u32], p: u32) -> Option<u32> {
-        if p >= size.fibers {
-            return None;
-        }
-        let i = p as usize;
-        Some(word(words, i + 1).saturating_sub(word(words, i)))
+        let (_, len) = fiber_span(size, words, p)?;
+        Some(len)
     }
 
     fn at(size: LevelSize, words: &[u32], p: u32, n: u32) -> Option<(u32, u32)> {
-        if p >= size.fibers {
-            return None;
-        }
-        let i = p as usize;
-        let from = word(words, i);
-        if n >= word(words, i + 1).saturating_sub(from) {
+        let (from, len) = fiber_span(size, words, p)?;
+        if n >= len {
             return None;
         }
         let j = from + n;
         Some((word(words, size.fibers as usize + 1 + j as usize), j))
     }
+}
+
+// Where fiber p starts among the coordinates, and how many it has.
+fn fiber_span(size: LevelSize, words: &[u32], p: u32) -> Option<(u32, u32)>
+    ensures { MatchOption result (size.fibers ≤ p) (λ x. (p < size.fibers) × (x.0 ≡ position words.now p) × (x.1 ≡ position words.now (p + 1) - position words.now p)) }
+{
+    if p >= size.fibers {
+        return None;
+    }
+    let i = p as usize;
+    let from = word(words, i);
+    Some((from, word(words, i + 1).saturating_sub(from)))
 }
 
 fn words_of(size: LevelSize) -> usize
@@ -92,5 +95,5 @@ fn words_of(size: LevelSize) -> usize
 fn word(words: &[u32], i: usize) -> u32
     ensures { result ≡ slice_index words.now i }
 {
-    if i < words.len() { words[i] } else { 0 }
+    words.get(i).copied().unwrap_or(0)
 }

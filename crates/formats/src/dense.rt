@@ -4,7 +4,9 @@ ghost use Rattle.model.specs.Formats.{dense_need, dense_children, dense_level};
 ghost use Rattle.formats.specs.Denses.{dense_lawful};
 ghost use Rattle.std.proofs.Common.{rules};
 
-use crate::format::{Format, Short};
+use crate::entry::Entry;
+use crate::format::Format;
+use crate::short::Short;
 use crate::size::LevelSize;
 
 #[derive(Clone, Copy)]
@@ -33,12 +35,7 @@ impl Format for Dense {
         size.extent * size.fibers
     }
 
-    fn build(
-        _size: LevelSize,
-        _owners: &[u32],
-        _coordinates: &[u32],
-        _words: &mut [u32],
-    ) -> Result<(), Short> {
+    fn build(_size: LevelSize, _entries: &[Entry], _words: &mut [u32]) -> Result<(), Short> {
         Ok(())
     }
 
@@ -47,18 +44,10 @@ impl Format for Dense {
     }
 
     fn count(size: LevelSize, _words: &[u32], p: u32) -> Option<u32> {
-        if p < size.fibers {
-            Some(size.extent)
-        } else {
-            None
-        }
+        (p < size.fibers).then_some(size.extent)
     }
 
     fn at(size: LevelSize, _words: &[u32], p: u32, n: u32) -> Option<(u32, u32)> {
-        if p < size.fibers && n < size.extent {
-            Some((n, p * size.extent + n))
-        } else {
-            None
-        }
+        (p < size.fibers && n < size.extent).then(|| (n, p * size.extent + n))
     }
 }

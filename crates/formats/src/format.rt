@@ -4,16 +4,12 @@ ghost use Rattle.std.specs.Prelude.{◌≡◌, ℕ, ◌*◌, ◌≤◌, List, le
 ghost use Rattle.model.specs.Fibers.{Level, Lawful, fibers_of, count_of, at_of};
 ghost use Rattle.model.specs.Formats.{LevelSize as Size, Listed};
 ghost use Rattle.formats.specs.Sizes.{size_of};
+ghost use Rattle.formats.specs.Entries.{owners_of, coordinates_of};
 ghost use Rattle.formats.specs.Builds.{Built, Refused};
 
+use crate::entry::Entry;
+use crate::short::Short;
 use crate::size::LevelSize;
-
-// Why a level was not built: the words that it needs, and those that were given.
-#[derive(Clone, Copy)]
-pub struct Short {
-    pub need: usize,
-    pub free: usize,
-}
 
 pub trait Format {
     // The words and the children of a level: both follow from its numbers.
@@ -33,15 +29,9 @@ pub trait Format {
     fn children(size: LevelSize) -> u32
         ensures { result ≡ births (size_of size) };
 
-    // Each coordinate comes with its owner, the fiber that it belongs to.
-    fn build(
-        size: LevelSize,
-        owners: &[u32],
-        coordinates: &[u32],
-        words: &mut [u32],
-    ) -> Result<(), Short>
-        requires { Listed (size_of size) owners.now coordinates.now }
-        ensures outcome { MatchResult result (λ _. Built (wants (size_of size)) (kept (size_of size)) (meaning (size_of size)) owners.now coordinates.now words.old words.new) (λ e. Refused (wants (size_of size)) e.need e.free words.old words.new) };
+    fn build(size: LevelSize, entries: &[Entry], words: &mut [u32]) -> Result<(), Short>
+        requires { Listed (size_of size) (owners_of entries.now) (coordinates_of entries.now) }
+        ensures outcome { MatchResult result (λ _. Built (wants (size_of size)) (kept (size_of size)) (meaning (size_of size)) (owners_of entries.now) (coordinates_of entries.now) words.old words.new) (λ e. Refused (wants (size_of size)) e.need e.free words.old words.new) };
 
     fn fibers(size: LevelSize, words: &[u32]) -> u32
         ensures { result ≡ fibers_of (meaning (size_of size) words.now) };

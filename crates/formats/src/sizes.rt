@@ -16,6 +16,7 @@ impl LevelSize {
     pub fn new(extent: u32, fibers: u32, entries: u32) -> Option<LevelSize>
         ensures { MatchOption result (Small extent fibers entries → ⊥) (λ s. Small extent fibers entries × (s.extent ≡ extent) × (s.fibers ≡ fibers) × (s.entries ≡ entries)) }
     {
+        // An `if`, since `then_some` would make the size before the test that its bounds follow from.
         if extent <= Self::MAX_EXTENT
             && fibers <= Self::MAX_FIBERS
             && entries <= Self::MAX_ENTRIES

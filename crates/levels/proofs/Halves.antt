@@ -2,10 +2,10 @@
 use Rattle.std.proofs.Common.{◌≡◌, ℕ, zero, suc, ◌+◌, ◌<◌, ◌≤◌, [], ◌∷◌, length, get_or, Some, None, sym, refl, ap, ◌∙◌, ⊎_elim, arith}
 use Rattle.std.specs.List.{slice_get}
 use Rattle.std.proofs.lemmas.List.{get_or-map, length-map}
+use Rattle.std.proofs.lemmas.Option.{slice_get-get_or}
 use Rattle.std.proofs.lemmas.Bool.{cases_lt, eq-eqb, ne_eqb}
 use Rattle.model.specs.Fibers.{Fiber, Ascends, coords, child}
 use Rattle.formats.specs.Ascents.{ascends_getd}
-use Rattle.levels.proofs.Asks.{told}
 
 abbrev pub coord_at : Fiber → ℕ → ℕ
 coord_at xs k = (get_or xs k (0, 0)).0
@@ -36,40 +36,32 @@ pub child_miss : (xs : Fiber) (c : ℕ) → ((k : ℕ) → k < length xs → coo
 child_miss [] c h = refl
 child_miss (x ∷ xs) c h = child_later x xs c (h 0 (omega arith)) ∙ child_miss xs c (λ k i. h (suc k) (omega arith))
 
--- all is left at first
-pub left_all : (xs : Fiber) (c n : ℕ) → n ≡ length xs → Left xs c 0 n
-left_all xs c n e = record { less = λ k h i. absurd (omega arith); greater = λ k h i. absurd (omega arith) }
-
--- and nothing at last
+-- nothing is left at last
 pub left_none : (xs : Fiber) (c low high : ℕ) → high ≤ low → Left xs c low high → child xs c ≡ None
 left_none xs c low high h l =
     child_miss xs c (λ k i e. ⊎_elim (λ lt. omega (arith, l.less k lt i)) (λ ge. omega (arith, l.greater k (omega arith) i)) (cases_lt k low))
 
--- an item that is read at c
-pub read_at : (xs : Fiber) (c m y z : ℕ) → Some (y, z) ≡ slice_get xs m → y ≡ c → Some (c, z) ≡ slice_get xs m
-read_at xs c m y z read e = sym (ap (λ w. Some (w, z)) e) ∙ read
-
 -- a turn reads the item x at m: it is the one, or what is left lies above it, or below
-module _ (xs : Fiber) (c low high m : ℕ) (x : ℕ × ℕ) (read : Some x ≡ slice_get xs m) (a : Ascends (coords xs)) where
-  pub read_hit : x.0 ≡ c → Some x.1 ≡ child xs c
-  read_hit e =
-      let t = told xs m x (0, 0) read in
-      ap (λ y. Some y.1) t.1 ∙ sym (child_hit xs c m a t.0 (sym (ap (λ y. y.0) t.1) ∙ e))
+module _ (xs : Fiber) (c low high m : ℕ) (x : ℕ × ℕ) (here : m < length xs) (read : x ≡ get_or xs m (0, 0)) where
+  pub read_held : x.0 ≡ c → Some (c, x.1) ≡ slice_get xs m
+  read_held e = ap (λ w. Some (w, x.1)) (sym e) ∙ ap Some read ∙ sym (slice_get-get_or xs m (0, 0) here)
 
-  pub left_above : x.0 < c → Left xs c low high → Left xs c (m + 1) high
-  left_above lt l =
-      let t = told xs m x (0, 0) read in
-      let at = ap (λ y. y.0) t.1 in
-      record {
-        less = λ k i j. ⊎_elim (λ b. omega (arith, ascends_coord xs a k m b t.0)) (λ ge. let e : k ≡ m = omega arith in omega (arith, ap (coord_at xs) e)) (cases_lt k m);
-        greater = l.greater;
-      }
+  module _ (a : Ascends (coords xs)) where
+    pub read_hit : x.0 ≡ c → Some x.1 ≡ child xs c
+    read_hit e = ap (λ y. Some y.1) read ∙ sym (child_hit xs c m a here (sym (ap (λ y. y.0) read) ∙ e))
 
-  pub left_below : c < x.0 → Left xs c low high → Left xs c low m
-  left_below lt l =
-      let t = told xs m x (0, 0) read in
-      let at = ap (λ y. y.0) t.1 in
-      record {
-        less = l.less;
-        greater = λ k i j. ⊎_elim (λ b. omega (arith, ascends_coord xs a m k b j)) (λ ge. let e : k ≡ m = omega arith in omega (arith, ap (coord_at xs) e)) (cases_lt m k);
-      }
+    pub left_above : x.0 < c → Left xs c low high → Left xs c (m + 1) high
+    left_above lt l =
+        let at = ap (λ y. y.0) read in
+        record {
+          less = λ k i j. ⊎_elim (λ b. omega (arith, ascends_coord xs a k m b here)) (λ ge. let e : k ≡ m = omega arith in omega (arith, ap (coord_at xs) e)) (cases_lt k m);
+          greater = l.greater;
+        }
+
+    pub left_below : c < x.0 → Left xs c low high → Left xs c low m
+    left_below lt l =
+        let at = ap (λ y. y.0) read in
+        record {
+          less = l.less;
+          greater = λ k i j. ⊎_elim (λ b. omega (arith, ascends_coord xs a m k b j)) (λ ge. let e : k ≡ m = omega arith in omega (arith, ap (coord_at xs) e)) (cases_lt m k);
+        }

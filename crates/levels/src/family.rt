@@ -3,10 +3,12 @@ ghost use Rattle.std.specs.Prelude.{◌≡◌, ℕ, ◌*◌, ◌≤◌, List, le
 ghost use Rattle.model.specs.Fibers.{Level, Lawful, fibers_of, count_of, at_of};
 ghost use Rattle.model.specs.Formats.{LevelSize as Size, Listed};
 ghost use Rattle.formats.specs.Sizes.{size_of};
+ghost use Rattle.formats.specs.Entries.{owners_of, coordinates_of};
 ghost use Rattle.formats.specs.Builds.{Built, Refused};
 
-use formats::{LevelSize, Short};
+use formats::{Entry, LevelSize, Short};
 
+// Each function takes the format's number first, so that a further format joins with no new arguments.
 pub trait Formats {
     ghost wants: { ℕ → Size → ℕ };
 
@@ -22,15 +24,9 @@ pub trait Formats {
     fn children(number: u8, size: LevelSize) -> u32
         ensures { result ≡ births number (size_of size) };
 
-    fn build(
-        number: u8,
-        size: LevelSize,
-        owners: &[u32],
-        coordinates: &[u32],
-        words: &mut [u32],
-    ) -> Result<(), Short>
-        requires { Listed (size_of size) owners.now coordinates.now }
-        ensures { MatchResult result (λ _. Built (wants number (size_of size)) (kept number (size_of size)) (meaning number (size_of size)) owners.now coordinates.now words.old words.new) (λ e. Refused (wants number (size_of size)) e.need e.free words.old words.new) };
+    fn build(number: u8, size: LevelSize, entries: &[Entry], words: &mut [u32]) -> Result<(), Short>
+        requires { Listed (size_of size) (owners_of entries.now) (coordinates_of entries.now) }
+        ensures { MatchResult result (λ _. Built (wants number (size_of size)) (kept number (size_of size)) (meaning number (size_of size)) (owners_of entries.now) (coordinates_of entries.now) words.old words.new) (λ e. Refused (wants number (size_of size)) e.need e.free words.old words.new) };
 
     fn fibers(number: u8, size: LevelSize, words: &[u32]) -> u32
         ensures { result ≡ fibers_of (meaning number (size_of size) words.now) };

@@ -2,9 +2,10 @@
 #![tactic(auto)]
 
 mod family;
-mod search;
+mod questions;
+mod stored;
 mod two;
 
 pub use family::Formats;
-pub use search::find;
+pub use stored::StoredLevel;
 pub use two::Two;

@@ -3,10 +3,21 @@ ghost use Rattle.levels.specs.Chosen.{chosen, Chosen};
 ghost use Rattle.std.proofs.Common.{rules};
 
 use crate::family::Formats;
-use formats::{Format, LevelSize, Short};
+use formats::{Entry, Format, LevelSize, Short};
 
 // Two formats: the first at 0, the second at any other number.
 pub struct Two<F0, F1>(F0, F1);
+
+// The function of the format that a number chooses.
+macro_rules! chosen {
+    ($number:expr, $function:ident($($argument:expr),*)) => {
+        if $number == 0 {
+            F0::$function($($argument),*)
+        } else {
+            F1::$function($($argument),*)
+        }
+    };
+}
 
 impl<F0: Format, F1: Format> Formats for Two<F0, F1> {
     ghost wants = { λ i. chosen i F0.Format.wants F1.Format.wants };
@@ -24,56 +35,31 @@ impl<F0: Format, F1: Format> Formats for Two<F0, F1> {
     ghost ample = { Prim.search rules };
 
     fn need(number: u8, size: LevelSize) -> usize {
-        if number == 0 {
-            F0::need(size)
-        } else {
-            F1::need(size)
-        }
+        chosen!(number, need(size))
     }
 
     fn children(number: u8, size: LevelSize) -> u32 {
-        if number == 0 {
-            F0::children(size)
-        } else {
-            F1::children(size)
-        }
+        chosen!(number, children(size))
     }
 
     fn build(
         number: u8,
         size: LevelSize,
-        owners: &[u32],
-        coordinates: &[u32],
+        entries: &[Entry],
         words: &mut [u32],
     ) -> Result<(), Short> {
-        if number == 0 {
-            F0::build(size, owners, coordinates, words)
-        } else {
-            F1::build(size, owners, coordinates, words)
-        }
+        chosen!(number, build(size, entries, words))
     }
 
     fn fibers(number: u8, size: LevelSize, words: &[u32]) -> u32 {
-        if number == 0 {
-            F0::fibers(size, words)
-        } else {
-            F1::fibers(size, words)
-        }
+        chosen!(number, fibers(size, words))
     }
 
     fn count(number: u8, size: LevelSize, words: &[u32], p: u32) -> Option<u32> {
-        if number == 0 {
-            F0::count(size, words, p)
-        } else {
-            F1::count(size, words, p)
-        }
+        chosen!(number, count(size, words, p))
     }
 
     fn at(number: u8, size: LevelSize, words: &[u32], p: u32, n: u32) -> Option<(u32, u32)> {
-        if number == 0 {
-            F0::at(size, words, p, n)
-        } else {
-            F1::at(size, words, p, n)
-        }
+        chosen!(number, at(size, words, p, n))
     }
 }

@@ -1,15 +1,12 @@
 -- The laws of a level that numbers its children backwards.
-use Rattle.std.specs.Prelude.{◌≡◌, ℕ, zero, suc, ◌+◌, ◌-◌, ◌*◌, ◌/◌, ◌%◌, ◌<◌}
+use Rattle.std.specs.Prelude.{◌≡◌, ℕ, ◌+◌, ◌-◌, ◌*◌, ◌/◌, ◌%◌, ◌<◌}
 use Rattle.std.proofs.Common.{sym, ap, ◌∙◌, arith, mul_comm, div-add-mod'}
 use Rattle.std.proofs.lemmas.Nat.{mul-add-lt, div-mul-add, mod-mul-add, div_below, mod_below}
 use Rattle.model.specs.Fibers.{Lawful}
 use Rattle.model.specs.Formats.{LevelSize, dense_children}
+use Rattle.formats.specs.Denses.{positive}
 use Rattle.formats.specs.Rows.{rows_lawful}
 use Rattle.levels_tests.specs.Mirrors.{mirrored_level}
-
-positive : (j f e : ℕ) → j < f * e → 0 < e
-positive j f zero h = omega arith
-positive j f (suc e) h = omega arith
 
 pub mirrored_lawful : (s : LevelSize) → Lawful s.extent s.fibers (dense_children s) (mirrored_level s)
 mirrored_lawful s =

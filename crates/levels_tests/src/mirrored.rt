@@ -5,9 +5,9 @@ ghost use Rattle.levels_tests.specs.Mirrors.{mirrored_level};
 ghost use Rattle.levels_tests.specs.Backwards.{mirrored_lawful};
 ghost use Rattle.std.proofs.Common.{rules};
 
-use formats::{Format, LevelSize, Short};
+use formats::{Entry, Format, LevelSize, Short};
 
-pub struct Mirrored;
+pub(crate) struct Mirrored;
 
 impl Format for Mirrored {
     ghost wants = { dense_need };
@@ -32,12 +32,7 @@ impl Format for Mirrored {
         size.extent * size.fibers
     }
 
-    fn build(
-        _size: LevelSize,
-        _owners: &[u32],
-        _coordinates: &[u32],
-        _words: &mut [u32],
-    ) -> Result<(), Short> {
+    fn build(_size: LevelSize, _entries: &[Entry], _words: &mut [u32]) -> Result<(), Short> {
         Ok(())
     }
 
@@ -46,18 +41,13 @@ impl Format for Mirrored {
     }
 
     fn count(size: LevelSize, _words: &[u32], p: u32) -> Option<u32> {
-        if p < size.fibers {
-            Some(size.extent)
-        } else {
-            None
-        }
+        (p < size.fibers).then_some(size.extent)
     }
 
     fn at(size: LevelSize, _words: &[u32], p: u32, n: u32) -> Option<(u32, u32)> {
-        if p < size.fibers && n < size.extent {
-            Some((n, size.extent * size.fibers - (p * size.extent + n) - 1))
-        } else {
-            None
-        }
+        (p < size.fibers && n < size.extent).then(|| (
+            n,
+            size.extent * size.fibers - (p * size.extent + n) - 1,
+        ))
     }
 }

@@ -1,6 +1,7 @@
 -- Sets of variables. Assumes nothing.
-use Rattle.std.proofs.Common.{◌≡◌, ℕ, ◌+◌, ◌-◌, ◌*◌, ◌<◌, ◌≤◌, Bool, true, false, ◌&&◌, ◌||◌, eqb, leb, List, [], ◌∷◌, get_or, replicate, Decides, sym, refl, ap, ◌∙◌, subst, ⊎_elim, arith}
+use Rattle.std.proofs.Common.{◌≡◌, ℕ, zero, suc, ◌+◌, ◌-◌, ◌<◌, ◌≤◌, Bool, true, false, not, ◌&&◌, ◌||◌, eqb, leb, List, [], ◌∷◌, length, get_or, replicate, Decides, sym, refl, ap, ◌∙◌, subst, ⊎_elim, arith}
 use lib.ListN.{length-replicate}
+use Rattle.std.specs.List.{list_all, zip}
 use Rattle.std.proofs.lemmas.List.{get_or-replicate, get_or_past}
 use Rattle.std.proofs.lemmas.Bool.{false≢true, cases_lt, le-leb, eq-eqb, eqb-true, or_cases, or_left, or_right, and_parts, and_from}
 use Rattle.std.proofs.lemmas.Bool.Decides.{same_from_decides}
@@ -8,9 +9,7 @@ use Rattle.model.specs.Tensors.{has}
 use Rattle.model.specs.Grammar.{is_var, Vars}
 use Rattle.model.specs.Conditions.{all_in}
 use Rattle.lines.specs.declared.sets.VarSet.{VarSet}
-use Rattle.lines.specs.Lists.{listed}
 use Rattle.lines.specs.Sets.{in_set, With, Within, SetOf}
-use Rattle.lines.proofs.Listing.{listed_more}
 
 pub all_false : (n i : ℕ) → get_or (replicate n false) i false ≡ false
 all_false n i = ⊎_elim (λ lt. get_or-replicate n i false false lt) (λ le. get_or_past (replicate n false) i false (subst (λ m. m ≤ i) (sym (length-replicate n false)) le)) (cases_lt i n)
@@ -22,10 +21,40 @@ letter k h =
     let high : k + 97 ≤ 122 = omega arith in
     ap (λ b. b && leb (k + 97) 122) (le-leb 97 (k + 97) low) ∙ le-leb (k + 97) 122 high
 
-pub not_within : (m n : VarSet) (k : ℕ) → k < 26 → get_or m.present k false ≡ true → get_or n.present k false ≡ false → Within m n → false ≡ true
-not_within m n k h yes_m no_n w =
-    let e : k + 97 - 97 ≡ k = omega arith in
-    sym no_n ∙ sym (ap (λ x. get_or n.present x false) e) ∙ w (k + 97) (letter k h) (ap (λ x. get_or m.present x false) e ∙ yes_m)
+-- one set of letters covers another, place by place
+covers : (x y : Bool) → (x || not y) ≡ true → y ≡ true → x ≡ true
+covers true y h g = refl
+covers false true h g = h
+covers false false h g = g
+
+covered : (x y : Bool) → (y ≡ true → x ≡ true) → (x || not y) ≡ true
+covered true y f = refl
+covered false true f = f refl
+covered false false f = refl
+
+all_cover : (xs ys : List Bool) → length xs ≡ length ys → list_all (λ (p : Bool × Bool). p.0 || not p.1) (zip xs ys) ≡ true → (i : ℕ) → get_or ys i false ≡ true → get_or xs i false ≡ true
+all_cover [] [] e h i g = g
+all_cover [] (y ∷ ys) e h i g = absurd (omega arith)
+all_cover (x ∷ xs) [] e h i g = absurd (omega arith)
+all_cover (x ∷ xs) (y ∷ ys) e h zero g = covers x y (and_parts (x || not y) (list_all (λ (p : Bool × Bool). p.0 || not p.1) (zip xs ys)) h).0 g
+all_cover (x ∷ xs) (y ∷ ys) e h (suc i) g = all_cover xs ys (omega arith) (and_parts (x || not y) (list_all (λ (p : Bool × Bool). p.0 || not p.1) (zip xs ys)) h).1 i g
+
+cover_all : (xs ys : List Bool) → ((i : ℕ) → get_or ys i false ≡ true → get_or xs i false ≡ true) → list_all (λ (p : Bool × Bool). p.0 || not p.1) (zip xs ys) ≡ true
+cover_all [] ys f = refl
+cover_all (x ∷ xs) [] f = refl
+cover_all (x ∷ xs) (y ∷ ys) f = and_from (x || not y) (list_all (λ (p : Bool × Bool). p.0 || not p.1) (zip xs ys)) (covered x y (f 0)) (cover_all xs ys (λ i. f (suc i)))
+
+pub includes_all : (m n : VarSet) (r : Bool) → r ≡ list_all (λ (p : Bool × Bool). p.0 || not p.1) (zip n.present m.present) → Decides r (Within m n)
+includes_all m n r e = (
+  λ yes v is. all_cover n.present m.present (n.letters ∙ sym m.letters) (sym e ∙ yes) (v - 97),
+  λ w. e ∙ cover_all n.present m.present (λ i g.
+      ⊎_elim
+      (λ lt.
+      let back : i + 97 - 97 ≡ i = omega arith in
+      sym (ap (λ x. get_or n.present x false) back) ∙ w (i + 97) (letter i lt) (ap (λ x. get_or m.present x false) back ∙ g))
+      (λ le. absurd (false≢true (sym (get_or_past m.present i false (omega (arith, m.letters))) ∙ g)))
+      (cases_lt i 26)),
+)
 
 pub or_none : (b : Bool) → (b || false) ≡ b
 or_none true = refl
@@ -37,21 +66,9 @@ or_swap true false z = refl
 or_swap false true z = refl
 or_swap false false z = refl
 
-module _ (s : List ℕ) (p n k : ℕ) (h : k < n) (vars : Vars (listed s (p + 2 * k) (n - k))) where
-  both : (is_var (get_or s (p + 2 * k) 0) ≡ true) × Vars (listed s (p + 2 * (k + 1)) (n - (k + 1)))
-  both = subst Vars (listed_more s p n k h) vars
-
-  pub var_here : is_var (get_or s (p + 2 * k) 0) ≡ true
-  var_here = both.0
-
-  pub vars_on : Vars (listed s (p + 2 * (k + 1)) (n - (k + 1)))
-  vars_on = both.1
-
-  pub with_on : (old new : VarSet) (whole : Bool) (v : ℕ) → is_var v ≡ true → With old (get_or s (p + 2 * k) 0) new → (has (listed s (p + 2 * k) (n - k)) v || in_set old v) ≡ whole → (has (listed s (p + 2 * (k + 1)) (n - (k + 1))) v || in_set new v) ≡ whole
-  with_on old new whole v is w inv =
-      let rest = listed s (p + 2 * (k + 1)) (n - (k + 1)) in
-      let x = get_or s (p + 2 * k) 0 in
-      ap (λ b. has rest v || b) (w v is) ∙ or_swap (has rest v) (eqb x v) (in_set old v) ∙ sym (ap (λ l. has l v || in_set old v) (listed_more s p n k h)) ∙ inv
+-- one more of a list of variables that are added to a set
+pub adds_on : (xs : List ℕ) (x : ℕ) (old new : VarSet) (whole : Bool) (v : ℕ) → is_var v ≡ true → With old x new → (has (x ∷ xs) v || in_set old v) ≡ whole → (has xs v || in_set new v) ≡ whole
+adds_on xs x old new whole v is w inv = ap (λ b. has xs v || b) (w v is) ∙ or_swap (has xs v) (eqb x v) (in_set old v) ∙ inv
 
 all_in_from : (us os : List ℕ) → Vars us → ((v : ℕ) → is_var v ≡ true → has us v ≡ true → has os v ≡ true) → all_in us os ≡ true
 all_in_from [] os vars f = refl

@@ -1,10 +1,10 @@
 -- Variables of nodes, one node on. Assumes nothing.
-use Rattle.std.proofs.Common.{◌≡◌, ℕ, ◌+◌, ◌<◌, Bool, true, false, ◌&&◌, ◌||◌, eqb, List, [], ◌∷◌, ◌++◌, length, Decides, sym, refl, ap, ◌∙◌, subst, arith}
+use Rattle.std.proofs.Common.{◌≡◌, ℕ, ◌+◌, Bool, true, false, ◌&&◌, ◌||◌, eqb, List, [], ◌∷◌, ◌++◌, length, Decides, sym, refl, ap, ◌∙◌, subst, ⊎_elim}
 use Rattle.std.specs.List.{flat_map}
 use Rattle.std.proofs.lemmas.List.{append_assoc, append-nil}
 use Rattle.std.proofs.ByRecursion.{All-append}
-use Rattle.reader.specs.declared.nodes.Node.{Node}
-use Rattle.reader.specs.declared.nodes.Node.TheVariants.{Access, Group, Plus}
+use Rattle.reader.specs.declared.node.Node.{Node}
+use Rattle.reader.specs.declared.node.Node.TheVariants.{Access, Group, Plus}
 use Rattle.model.specs.Tensors.{has}
 use Rattle.model.specs.Terms.{Access as ModelAccess}
 use Rattle.model.specs.Grammar.{Tree, access, group, times, plus, text, is_var, Vars}
@@ -13,13 +13,14 @@ use Rattle.model.specs.Conditions.{tree_vars, all_in, last_product}
 use Rattle.reader.specs.Nodes.{node, Holds}
 use Rattle.reader.proofs.Views.{at_access, at_group, at_plus}
 use Rattle.lines.specs.declared.sets.VarSet.{VarSet}
-use Rattle.lines.specs.Lists.{listed, Inside}
+use Rattle.reader.specs.declared.vars.VarList.{VarList}
+use Rattle.reader.specs.Lists.{vars_of}
+use Rattle.reader.proofs.Having.{vars_inside}
 use Rattle.lines.specs.Sets.{in_set, NoVar, WithAll, SetOf, Within}
-use Rattle.lines.specs.Tables.{NodeOf}
 use Rattle.lines.specs.Ties.{Tied}
 use Rattle.lines.specs.Evenness.{Adds, HasVars, HasLastVars, Alike}
 use Rattle.lines.proofs.Members.{or_none, included}
-use Rattle.lines.proofs.Nodes.{Joins, left_node, right_node}
+use Rattle.lines.proofs.Nodes.{Joins, Joined, times_joins, plus_joins}
 
 pub joined_append : {A B : Type 0} (f : A → List B) (xs ys : List A) → flat_map f (xs ++ ys) ≡ flat_map f xs ++ flat_map f ys
 joined_append f [] ys = refl
@@ -50,27 +51,17 @@ or_turn false true z = refl
 or_turn false false z = refl
 
 module _ (s : List ℕ) (ns : List Node) (i : ℕ) where
-  -- the arguments of an access node
-  pub args_inside : (p k n : ℕ) → node ns i ≡ Access p k n → NodeOf (Tied s) ns i → Inside s (record { place = p + 2; count = n }) × Vars (listed s (p + 2) n)
-  args_inside p k n e r =
-      at_access (λ at t. Tied s at t → Inside s (record { place = p + 2; count = n }) × Vars (listed s (p + 2) n)) ns i p k n e
-      (λ l vs x y h. (omega (arith, h.1), subst (λ m. Vars (listed s (p + 2) m)) y (subst Vars (sym h.0) h.2))) r.tree r.at r.holds r.need
-
-  pub adds_access : (p k n : ℕ) (old new : VarSet) → node ns i ≡ Access p k n → WithAll old (listed s (p + 2) n) new → Adds s ns i old new
-  adds_access p k n old new e w =
-      at_access (λ at t. Tied s at t → WithAll old (tree_vars t) new) ns i p k n e
-      (λ l vs x y h. subst (λ us. WithAll old us new) (sym (append-nil vs)) (subst (λ us. WithAll old us new) (ap (listed s (p + 2)) (sym y) ∙ h.0) w))
+  pub adds_access : (p k : ℕ) (v : VarList) (old new : VarSet) → node ns i ≡ Access p k v → (Vars (vars_of s v) → WithAll old (vars_of s v) new) → Adds s ns i old new
+  adds_access p k v old new e w =
+      at_access (λ at t. Tied s at t → WithAll old (tree_vars t) new) ns i p k v e
+      (λ l vs x y h.
+      let is : vars_of s v ≡ vs = ap (vars_of s) (sym y) ∙ vars_inside s (record { place = p + 2; count = length vs }) h.1 ∙ h.0 in
+      subst (λ us. WithAll old us new) (sym (append-nil vs)) (subst (λ us. WithAll old us new) is (w (subst Vars (sym is) h.2))))
 
   pub adds_group : (p j : ℕ) (old new : VarSet) → node ns i ≡ Group p j → Adds s ns j old new → Adds s ns i old new
   adds_group p j old new e w = at_group (λ at t. Tied s at t → WithAll old (tree_vars t) new) ns i p j e (λ u lt g h. w u (p + 1) g h)
 
   module _ (join : Tree → Tree → Tree) (are : (a b : Tree) → accesses (join a b) ≡ accesses a ++ accesses b) (tied : (a b : Tree) (at : ℕ) → Tied s at (join a b) → Tied s at a × Tied s (at + length (text a) + 1) b) (j k : ℕ) (joins : Joins join ns i j k) where
-    pub tied_left : NodeOf (Tied s) ns i → (j < i) × NodeOf (Tied s) ns j
-    tied_left r = left_node (Tied s) (Tied s) ns i r join j k joins (λ a b at h. (tied a b at h).0)
-
-    pub tied_right : NodeOf (Tied s) ns i → (k < i) × NodeOf (Tied s) ns k
-    tied_right r = right_node (Tied s) (Tied s) ns i r join j k joins (λ a b at ha h. (tied a b at h).1)
-
     pub adds_both : (old mid new : VarSet) → Adds s ns j old mid → Adds s ns k mid new → Adds s ns i old new
     adds_both old mid new g h =
         joins (λ at t. Tied s at t → WithAll old (tree_vars t) new)
@@ -78,6 +69,13 @@ module _ (s : List ℕ) (ns : List Node) (i : ℕ) where
         h b (at + length (text a) + 1) hb (tied a b at td).1 v is ∙ ap (λ x. has (tree_vars b) v || x) (g a at ha (tied a b at td).0 v is)
         ∙ or_turn (has (tree_vars a) v) (has (tree_vars b) v) (in_set old v) ∙ ap (λ x. x || in_set old v) (sym (has_append (tree_vars a) (tree_vars b) v))
         ∙ ap (λ l. has l v || in_set old v) (sym (ap (flat_map (λ (x : ModelAccess). x.vars)) (are a b) ∙ vars_both a b)))
+
+  pub adds_chain : (x : Node) (j k : ℕ) → x ≡ node ns i → Joined x j k → (old mid new : VarSet) → Adds s ns j old mid → Adds s ns k mid new → Adds s ns i old new
+  adds_chain x j k e is old mid new g h =
+      ⊎_elim
+      (λ f. adds_both times (λ a b. refl) (λ a b at t. t) j k (times_joins ns i j k (sym e ∙ f)) old mid new g h)
+      (λ f. adds_both plus (λ a b. refl) (λ a b at t. t) j k (plus_joins ns i f.0 j k (sym e ∙ f.1)) old mid new g h)
+      is
 
   pub has_vars : (none set : VarSet) → NoVar none → Adds s ns i none set → HasVars s ns i set
   has_vars none set empty w t at h td v is = w t at h td v is ∙ ap (λ b. has (tree_vars t) v || b) (empty v is) ∙ or_none (has (tree_vars t) v)
@@ -107,8 +105,9 @@ module _ (s : List ℕ) (ns : List Node) (i j : ℕ) (m n : VarSet) (hm : HasLas
   back : (r : Bool) → Decides r (Within n m) → (a : Tree) (p : ℕ) → Holds a p ns i → Tied s p a → (b : Tree) (q : ℕ) → Holds b q ns j → Tied s q b → r ≡ all_in (tree_vars b) (tree_vars (last_product a))
   back r d a p ha ta b q hb tb = included (tree_vars b) (tree_vars (last_product a)) n m r (tied_vars s b q tb) (hn b q hb tb) (hm a p ha ta) d
 
-  pub alike_not : Decides false (Within m n) → Alike s ns i j false
-  alike_not d a p ha ta b q hb tb = ap (λ x. x && all_in (tree_vars b) (tree_vars (last_product a))) (forth false d a p ha ta b q hb tb)
+  pub alike_both : (x y : Bool) → Decides x (Within m n) → Decides y (Within n m) → Alike s ns i j (x && y)
+  alike_both x y d e a p ha ta b q hb tb =
+      ap (λ z. x && z) (back y e a p ha ta b q hb tb) ∙ ap (λ z. z && all_in (tree_vars b) (tree_vars (last_product a))) (forth x d a p ha ta b q hb tb)
 
-  pub alike_both : (r : Bool) → Decides true (Within m n) → Decides r (Within n m) → Alike s ns i j r
-  alike_both r d e a p ha ta b q hb tb = back r e a p ha ta b q hb tb ∙ ap (λ x. x && all_in (tree_vars b) (tree_vars (last_product a))) (forth true d a p ha ta b q hb tb)
+  pub alike_not : (x : Bool) → x ≡ false → Decides x (Within m n) → Alike s ns i j x
+  alike_not x fails d a p ha ta b q hb tb = fails ∙ ap (λ z. z && all_in (tree_vars b) (tree_vars (last_product a))) (sym fails ∙ forth x d a p ha ta b q hb tb)

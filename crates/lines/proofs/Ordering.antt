@@ -1,140 +1,111 @@
 -- Steps along a loop order. Assumes nothing.
-use Rattle.std.proofs.Common.{◌≡◌, ℕ, ◌+◌, ◌-◌, ◌*◌, ◌<◌, ◌≤◌, Bool, true, false, cond, not, ◌||◌, eqb, List, [], ◌∷◌, ◌++◌, length, get_or, Some, None, Decides, sym, refl, ap, ◌∙◌, subst, ⊎_elim, arith}
-use Rattle.std.proofs.lemmas.Bool.{cases_lt, eq-eqb, ne_eqb}
+use Rattle.std.proofs.Common.{◌≡◌, ℕ, Bool, true, false, cond, not, ◌||◌, eqb, List, [], ◌∷◌, length, Some, None, Decides, sym, ap, ◌∙◌, subst}
+use Rattle.std.proofs.lemmas.Bool.{eq-eqb, ne_eqb}
 use Rattle.model.specs.Tensors.{has, same}
 use Rattle.model.specs.Terms.{kept}
 use Rattle.model.specs.Grammar.{is_var, Vars}
-use Rattle.model.specs.Reading.{placed_vars}
-use Rattle.model.specs.Conditions.{first_fault, all_in, order_checks}
-use Rattle.lines.specs.declared.vars.VarList.{VarList}
+use Rattle.model.specs.Conditions.{first_fault}
+use Rattle.reader.specs.declared.vars.VarList.{VarList}
+use Rattle.reader.specs.Lists.{vars_of, placed_of}
+use Rattle.reader.proofs.Having.{bare, bare_placed}
 use Rattle.lines.specs.declared.sets.VarSet.{VarSet}
-use Rattle.lines.specs.Lists.{listed, vars_of}
 use Rattle.lines.specs.Sets.{in_set, NoVar, With, SetOf, Within}
 use Rattle.lines.specs.Checks.{order_faults, order_left}
-use Rattle.lines.proofs.Listing.{listed_more, at_listed_more, at_listed_all}
-use Rattle.lines.proofs.Members.{or_none, or_swap, var_here, vars_on, included}
+use Rattle.lines.proofs.Members.{or_none, or_swap, included}
 
--- an access's variables beside those of the order that it has
-module _ (s : List ℕ) (test : ℕ → Bool) (op on vp vn met : ℕ) (whole : Bool) where
-  module _ (k : ℕ) (h : k < on) (inv : same (kept test (listed s (op + 2 * k) (on - k))) (listed s (vp + 2 * met) (vn - met)) ≡ whole) where
-    left : (b : Bool) → test (get_or s (op + 2 * k) 0) ≡ b → same (cond b (get_or s (op + 2 * k) 0 ∷ kept test (listed s (op + 2 * (k + 1)) (on - (k + 1)))) (kept test (listed s (op + 2 * (k + 1)) (on - (k + 1))))) (listed s (vp + 2 * met) (vn - met)) ≡ whole
-    left b e =
-        ap (λ x. same (cond x (get_or s (op + 2 * k) 0 ∷ kept test (listed s (op + 2 * (k + 1)) (on - (k + 1)))) (kept test (listed s (op + 2 * (k + 1)) (on - (k + 1))))) (listed s (vp + 2 * met) (vn - met))) (sym e)
-        ∙ sym (at_listed_more (λ l. same (kept test l) (listed s (vp + 2 * met) (vn - met))) s op on k h) ∙ inv
+-- what is left of a loop order, beside what is left of an access's variables
+abbrev pub Meets : (ℕ → Bool) → List (ℕ × ℕ) → List (ℕ × ℕ) → Bool → Type 0
+Meets test os vs whole = same (kept test (bare os)) (bare vs) ≡ whole
 
-    pub order_skips : test (get_or s (op + 2 * k) 0) ≡ false → same (kept test (listed s (op + 2 * (k + 1)) (on - (k + 1)))) (listed s (vp + 2 * met) (vn - met)) ≡ whole
-    order_skips e = left false e
+pub meets_start : (s : List ℕ) (order vars : VarList) (os vs : List (ℕ × ℕ)) → os ≡ placed_of s order → vs ≡ placed_of s vars → Meets (has (vars_of s vars)) os vs (same (kept (has (vars_of s vars)) (vars_of s order)) (vars_of s vars))
+meets_start s order vars os vs e f =
+    ap (λ l. same (kept (has (vars_of s vars)) l) (bare vs)) (ap bare e ∙ bare_placed order.place (vars_of s order))
+    ∙ ap (same (kept (has (vars_of s vars)) (vars_of s order))) (ap bare f ∙ bare_placed vars.place (vars_of s vars))
+
+module _ (test : ℕ → Bool) (vs : List (ℕ × ℕ)) (whole : Bool) where
+  module _ (all os : List (ℕ × ℕ)) (x : ℕ × ℕ) (inv : Meets test all vs whole) (e : all ≡ x ∷ os) where
+    left : (b : Bool) → test x.1 ≡ b → same (cond b (x.1 ∷ kept test (bare os)) (kept test (bare os))) (bare vs) ≡ whole
+    left b is = ap (λ y. same (cond y (x.1 ∷ kept test (bare os)) (kept test (bare os))) (bare vs)) (sym is) ∙ sym (ap (λ l. same (kept test (bare l)) (bare vs)) e) ∙ inv
+
+    pub order_skips : false ≡ test x.1 → Meets test os vs whole
+    order_skips is = left false (sym is)
 
     -- the next of the access's
-    both : met < vn → test (get_or s (op + 2 * k) 0) ≡ true → (b : Bool) → eqb (get_or s (op + 2 * k) 0) (get_or s (vp + 2 * met) 0) ≡ b → cond b (same (kept test (listed s (op + 2 * (k + 1)) (on - (k + 1)))) (listed s (vp + 2 * (met + 1)) (vn - (met + 1)))) false ≡ whole
-    both lt e b is =
-        ap (λ x. cond x (same (kept test (listed s (op + 2 * (k + 1)) (on - (k + 1)))) (listed s (vp + 2 * (met + 1)) (vn - (met + 1)))) false) (sym is)
-        ∙ sym (at_listed_more (same (get_or s (op + 2 * k) 0 ∷ kept test (listed s (op + 2 * (k + 1)) (on - (k + 1))))) s vp vn met lt) ∙ left true e
+    pub order_meets : true ≡ test x.1 → (y : ℕ × ℕ) (ws : List (ℕ × ℕ)) → vs ≡ y ∷ ws → y.1 ≡ x.1 → Meets test os ws whole
+    order_meets is y ws f h =
+        sym (ap (λ b. cond b (same (kept test (bare os)) (bare ws)) false) (eq-eqb x.1 y.1 (sym h)))
+        ∙ sym (ap (λ l. same (x.1 ∷ kept test (bare os)) (bare l)) f) ∙ left true (sym is)
 
-    pub order_meets : test (get_or s (op + 2 * k) 0) ≡ true → met < vn → get_or s (vp + 2 * met) 0 ≡ get_or s (op + 2 * k) 0 → same (kept test (listed s (op + 2 * (k + 1)) (on - (k + 1)))) (listed s (vp + 2 * (met + 1)) (vn - (met + 1))) ≡ whole
-    order_meets e lt is = both lt e true (eq-eqb (get_or s (op + 2 * k) 0) (get_or s (vp + 2 * met) 0) (sym is))
+    pub order_differs : true ≡ test x.1 → (y : ℕ × ℕ) (ws : List (ℕ × ℕ)) → vs ≡ y ∷ ws → (y.1 ≡ x.1 → ⊥) → false ≡ whole
+    order_differs is y ws f h =
+        sym (ap (λ b. cond b (same (kept test (bare os)) (bare ws)) false) (ne_eqb x.1 y.1 (λ z. h (sym z))))
+        ∙ sym (ap (λ l. same (x.1 ∷ kept test (bare os)) (bare l)) f) ∙ left true (sym is)
 
-    pub order_stops : test (get_or s (op + 2 * k) 0) ≡ true → (met < vn → get_or s (vp + 2 * met) 0 ≡ get_or s (op + 2 * k) 0 → ⊥) → false ≡ whole
-    order_stops e nay =
-        ⊎_elim
-        (λ lt. both lt e false (ne_eqb (get_or s (op + 2 * k) 0) (get_or s (vp + 2 * met) 0) (λ is. nay lt (sym is))))
-        (λ le. sym (at_listed_all (same (get_or s (op + 2 * k) 0 ∷ kept test (listed s (op + 2 * (k + 1)) (on - (k + 1))))) s vp vn met le) ∙ left true e)
-        (cases_lt met vn)
+    pub order_over : true ≡ test x.1 → vs ≡ [] → false ≡ whole
+    order_over is f = sym (ap (λ l. same (x.1 ∷ kept test (bare os)) (bare l)) f) ∙ left true (sym is)
 
-  module _ (k : ℕ) (h : k < on) (inv : same (kept test (listed s (op + 2 * k) (on - k))) (listed s (vp + 2 * met) (vn - met)) ≡ whole) (new : ℕ) where
-    pub skips_on : new ≡ met → met ≤ vn → test (get_or s (op + 2 * k) 0) ≡ false → (new ≤ vn) × (same (kept test (listed s (op + 2 * (k + 1)) (on - (k + 1)))) (listed s (vp + 2 * new) (vn - new)) ≡ whole)
-    skips_on is few e = (omega arith, ap (λ m. same (kept test (listed s (op + 2 * (k + 1)) (on - (k + 1)))) (listed s (vp + 2 * m) (vn - m))) is ∙ order_skips k h inv e)
+  module _ (all : List (ℕ × ℕ)) (inv : Meets test all vs whole) (e : all ≡ []) where
+    none_left : same [] (bare vs) ≡ whole
+    none_left = sym (ap (λ l. same (kept test (bare l)) (bare vs)) e) ∙ inv
 
-    pub meets_on : new ≡ met + 1 → test (get_or s (op + 2 * k) 0) ≡ true → (met < vn) × (get_or s (vp + 2 * met) 0 ≡ get_or s (op + 2 * k) 0) → (new ≤ vn) × (same (kept test (listed s (op + 2 * (k + 1)) (on - (k + 1)))) (listed s (vp + 2 * new) (vn - new)) ≡ whole)
-    meets_on is e at = (omega (arith, at.0), ap (λ m. same (kept test (listed s (op + 2 * (k + 1)) (on - (k + 1)))) (listed s (vp + 2 * m) (vn - m))) is ∙ order_meets k h inv e at.0 at.1)
+    pub order_ends : vs ≡ [] → true ≡ whole
+    order_ends f = sym (ap (λ l. same [] (bare l)) f) ∙ none_left
 
-  module _ (k : ℕ) (le : on ≤ k) (inv : same (kept test (listed s (op + 2 * k) (on - k))) (listed s (vp + 2 * met) (vn - met)) ≡ whole) where
-    none_left : same [] (listed s (vp + 2 * met) (vn - met)) ≡ whole
-    none_left = sym (at_listed_all (λ l. same (kept test l) (listed s (vp + 2 * met) (vn - met))) s op on k le) ∙ inv
+    pub order_lacks : (y : ℕ × ℕ) (ws : List (ℕ × ℕ)) → vs ≡ y ∷ ws → false ≡ whole
+    order_lacks y ws f = sym (ap (λ l. same [] (bare l)) f) ∙ none_left
 
-    pub order_ends : met ≤ vn → eqb met vn ≡ whole
-    order_ends few =
-        ⊎_elim
-        (λ lt. let apart : met ≡ vn → ⊥ = λ e. omega arith in ne_eqb met vn apart ∙ sym (at_listed_more (same []) s vp vn met lt) ∙ none_left)
-        (λ over. let is : met ≡ vn = omega arith in eq-eqb met vn is ∙ sym (at_listed_all (same []) s vp vn met over) ∙ none_left)
-        (cases_lt met vn)
-
--- the first k variables of a loop order were each met once, and each is used
-pub record Passed (s : List ℕ) (order : VarList) (k : ℕ) (used seen : VarSet) : Type 0 where
+-- the variables of a loop order up to those that are left were each met once, and each is used
+pub record Passed (s : List ℕ) (order : VarList) (left : List (ℕ × ℕ)) (used seen : VarSet) : Type 0 where
   pub known : List ℕ
   pub set : SetOf known seen
-  pub vars : Vars (listed s (order.place + 2 * k) (order.count - k))
-  pub all : (v : ℕ) → (has known v || has (listed s (order.place + 2 * k) (order.count - k)) v) ≡ has (vars_of s order) v
-  pub left : (us : List ℕ) → SetOf us used → first_fault (order_left us known s order k) ≡ first_fault (order_faults us s order)
+  pub vars : Vars (bare left)
+  pub all : (v : ℕ) → (has known v || has (bare left) v) ≡ has (vars_of s order) v
+  pub faults : (us : List ℕ) → SetOf us used → first_fault (order_left us known left s order) ≡ first_fault (order_faults us s order)
 
-pub passed_none : (s : List ℕ) (order : VarList) (used seen : VarSet) → Vars (vars_of s order) → NoVar seen → Passed s order 0 used seen
-passed_none s order used seen vars none = record {
-  known = [];
-  set = none;
-  vars = subst Vars (sym start) vars;
-  all = λ v. ap (λ l. has l v) start;
-  left = λ us su. ap (λ q. first_fault (order_checks us [] (placed_vars q (listed s q (order.count - 0))) ++ (length s, not (all_in us (vars_of s order))) ∷ [])) place
-      ∙ ap (λ n. first_fault (order_checks us [] (placed_vars order.place (listed s order.place n)) ++ (length s, not (all_in us (vars_of s order))) ∷ [])) count;
-}
-  where
-    place : order.place + 2 * 0 ≡ order.place
-    place = omega arith
+pub passed_none : (s : List ℕ) (order : VarList) (left : List (ℕ × ℕ)) (used seen : VarSet) → left ≡ placed_of s order → Vars (vars_of s order) → NoVar seen → Passed s order left used seen
+passed_none s order left used seen e vars none =
+    let start : bare left ≡ vars_of s order = ap bare e ∙ bare_placed order.place (vars_of s order) in
+    record {
+      known = [];
+      set = none;
+      vars = subst Vars (sym start) vars;
+      all = λ v. ap (λ l. has l v) start;
+      faults = λ us su. ap (λ l. first_fault (order_left us [] l s order)) e;
+    }
 
-    count : order.count - 0 ≡ order.count
-    count = omega arith
-
-    start : listed s (order.place + 2 * 0) (order.count - 0) ≡ vars_of s order
-    start = ap (λ q. listed s q (order.count - 0)) place ∙ ap (listed s order.place) count
-
-module _ (s : List ℕ) (order : VarList) (k : ℕ) (used seen : VarSet) (p : Passed s order k used seen) where
-  module _ (h : k < order.count) where
-    pub passed_var : is_var (get_or s (order.place + 2 * k) 0) ≡ true
-    passed_var = var_here s order.place order.count k h p.vars
-
-    more_left : (us : List ℕ) → order_left us p.known s order k ≡ (order.place + 2 * k, has p.known (get_or s (order.place + 2 * k) 0) || not (has us (get_or s (order.place + 2 * k) 0))) ∷ order_left us (get_or s (order.place + 2 * k) 0 ∷ p.known) s order (k + 1)
-    more_left us =
-        let x = get_or s (order.place + 2 * k) 0 in
-        let place : order.place + 2 * k + 2 ≡ order.place + 2 * (k + 1) = omega arith in
-        ap (λ l. order_checks us p.known (placed_vars (order.place + 2 * k) l) ++ (length s, not (all_in us (vars_of s order))) ∷ []) (listed_more s order.place order.count k h)
-        ∙ ap (λ q. (order.place + 2 * k, has p.known x || not (has us x)) ∷ (order_checks us (x ∷ p.known) (placed_vars q (listed s (order.place + 2 * (k + 1)) (order.count - (k + 1)))) ++ (length s, not (all_in us (vars_of s order))) ∷ [])) place
+module _ (s : List ℕ) (order : VarList) (left : List (ℕ × ℕ)) (used seen : VarSet) (p : Passed s order left used seen) where
+  module _ (x : ℕ × ℕ) (xs : List (ℕ × ℕ)) (e : left ≡ x ∷ xs) where
+    vars_here : (is_var x.1 ≡ true) × Vars (bare xs)
+    vars_here = subst (λ l. Vars (bare l)) e p.vars
 
     -- what is asked of a variable, by the sets and by the lists
-    asked : (us : List ℕ) (b : Bool) → SetOf us used → b ≡ (in_set seen (get_or s (order.place + 2 * k) 0) || not (in_set used (get_or s (order.place + 2 * k) 0))) → (has p.known (get_or s (order.place + 2 * k) 0) || not (has us (get_or s (order.place + 2 * k) 0))) ≡ b
-    asked us b su is =
-        let x = get_or s (order.place + 2 * k) 0 in
-        sym (is ∙ ap (λ y. y || not (in_set used x)) (p.set x passed_var) ∙ ap (λ y. has p.known x || not y) (su x passed_var))
+    asked : (us : List ℕ) (b : Bool) → SetOf us used → b ≡ (in_set seen x.1 || not (in_set used x.1)) → (has p.known x.1 || not (has us x.1)) ≡ b
+    asked us b su is = sym (is ∙ ap (λ y. y || not (in_set used x.1)) (p.set x.1 vars_here.0) ∙ ap (λ y. has p.known x.1 || not y) (su x.1 vars_here.0))
 
-    at_first : (us : List ℕ) (b : Bool) → SetOf us used → b ≡ (in_set seen (get_or s (order.place + 2 * k) 0) || not (in_set used (get_or s (order.place + 2 * k) 0))) → cond b (Some (order.place + 2 * k)) (first_fault (order_left us (get_or s (order.place + 2 * k) 0 ∷ p.known) s order (k + 1))) ≡ first_fault (order_faults us s order)
+    at_first : (us : List ℕ) (b : Bool) → SetOf us used → b ≡ (in_set seen x.1 || not (in_set used x.1)) → cond b (Some x.0) (first_fault (order_left us (x.1 ∷ p.known) xs s order)) ≡ first_fault (order_faults us s order)
     at_first us b su is =
-        ap (λ y. cond y (Some (order.place + 2 * k)) (first_fault (order_left us (get_or s (order.place + 2 * k) 0 ∷ p.known) s order (k + 1)))) (sym (asked us b su is))
-        ∙ sym (ap first_fault (more_left us)) ∙ p.left us su
+        ap (λ y. cond y (Some x.0) (first_fault (order_left us (x.1 ∷ p.known) xs s order))) (sym (asked us b su is))
+        ∙ sym (ap (λ l. first_fault (order_left us p.known l s order)) e) ∙ p.faults us su
 
-    pub stray_found : true ≡ (in_set seen (get_or s (order.place + 2 * k) 0) || not (in_set used (get_or s (order.place + 2 * k) 0))) → (us : List ℕ) → SetOf us used → Some (order.place + 2 * k) ≡ first_fault (order_faults us s order)
+    pub stray_found : true ≡ (in_set seen x.1 || not (in_set used x.1)) → (us : List ℕ) → SetOf us used → Some x.0 ≡ first_fault (order_faults us s order)
     stray_found is us su = at_first us true su is
 
-    pub passed_on : (new : VarSet) → false ≡ (in_set seen (get_or s (order.place + 2 * k) 0) || not (in_set used (get_or s (order.place + 2 * k) 0))) → With seen (get_or s (order.place + 2 * k) 0) new → Passed s order (k + 1) used new
-    passed_on new is w =
-        let x = get_or s (order.place + 2 * k) 0 in
-        record {
-          known = x ∷ p.known;
-          set = λ v var. w v var ∙ ap (λ b. eqb x v || b) (p.set v var);
-          vars = vars_on s order.place order.count k h p.vars;
-          all = λ v. sym (or_swap (has p.known v) (eqb x v) (has (listed s (order.place + 2 * (k + 1)) (order.count - (k + 1))) v))
-              ∙ sym (ap (λ l. has p.known v || has l v) (listed_more s order.place order.count k h)) ∙ p.all v;
-          left = λ us su. at_first us false su is;
-        }
+    pub passed_on : (new : VarSet) → false ≡ (in_set seen x.1 || not (in_set used x.1)) → (is_var x.1 ≡ true → With seen x.1 new) → Passed s order xs used new
+    passed_on new is w = record {
+      known = x.1 ∷ p.known;
+      set = λ v var. w vars_here.0 v var ∙ ap (λ b. eqb x.1 v || b) (p.set v var);
+      vars = vars_here.1;
+      all = λ v. sym (or_swap (has p.known v) (eqb x.1 v) (has (bare xs) v)) ∙ sym (ap (λ l. has p.known v || has (bare l) v) e) ∙ p.all v;
+      faults = λ us su. at_first us false su is;
+    }
 
-  module _ (h : order.count ≤ k) (us : List ℕ) (vars : Vars us) (su : SetOf us used) (r : Bool) (d : Decides r (Within used seen)) where
+  module _ (e : left ≡ []) (us : List ℕ) (vars : Vars us) (su : SetOf us used) (r : Bool) (d : Decides r (Within used seen)) where
     all_known : SetOf (vars_of s order) seen
-    all_known v is = p.set v is ∙ sym (or_none (has p.known v)) ∙ sym (at_listed_all (λ l. has p.known v || has l v) s order.place order.count k h) ∙ p.all v
+    all_known v is = p.set v is ∙ sym (or_none (has p.known v)) ∙ sym (ap (λ l. has p.known v || has (bare l) v) e) ∙ p.all v
 
     -- whether one is missing
-    pub order_whole : cond r None (Some (length s)) ≡ first_fault (order_faults us s order)
+    pub order_whole : cond (not r) (Some (length s)) None ≡ first_fault (order_faults us s order)
     order_whole =
-        flip r ∙ ap (λ b. cond (not b) (Some (length s)) None) (included us (vars_of s order) used seen r vars su all_known d)
-        ∙ sym (at_listed_all (λ l. first_fault (order_checks us p.known (placed_vars (order.place + 2 * k) l) ++ (length s, not (all_in us (vars_of s order))) ∷ [])) s order.place order.count k h)
-        ∙ p.left us su
-      where
-        flip : (b : Bool) → cond b None (Some (length s)) ≡ cond (not b) (Some (length s)) None
-        flip true = refl
-        flip false = refl
+        ap (λ b. cond (not b) (Some (length s)) None) (included us (vars_of s order) used seen r vars su all_known d)
+        ∙ sym (ap (λ l. first_fault (order_left us p.known l s order)) e)
+        ∙ p.faults us su

@@ -4,7 +4,8 @@ use Rattle.std.proofs.lemmas.List.{append_assoc, append-nil}
 use Rattle.model.specs.Grammar.{Syntax, names, args, text}
 use Rattle.model.specs.Reading.{body_place, order_place, placed_accesses}
 use Rattle.model.specs.Conditions.{Spells}
-use Rattle.lines.specs.Lists.{vars_of, Inside}
+use Rattle.reader.specs.Lists.{vars_of}
+use Rattle.reader.proofs.Having.{vars_inside}
 use Rattle.lines.specs.Ties.{Tied}
 use Rattle.lines.proofs.Tying.{behind, listed_names, names_length, tied_from}
 use Rattle.lines.proofs.Collecting.{few_accesses}
@@ -32,20 +33,16 @@ module _ (s : List ℕ) (l : Syntax) (h : Spells s l) where
   pub line_length : length s ≡ order_place l + (2 * length l.order - 1)
   line_length = sym (ap length h.spelled) ∙ simp length-append (omega (arith, names_length l.order))
 
-  pub left_listed : vars_of s (record { place = 2; count = length l.left }) ≡ l.left
-  left_listed = listed_names s 2 l.left (41 ∷ (61 ∷ (text l.body ++ (59 ∷ names l.order)))) left_there
-
-  pub order_listed : vars_of s (record { place = order_place l; count = length l.order }) ≡ l.order
-  order_listed = listed_names s (order_place l) l.order [] order_there
-
   pub body_begins : body_place l ≡ 2 * length l.left - 1 + 4
   body_begins = simp length-append (omega (arith, names_length l.left))
 
-  pub left_inside : Inside s (record { place = 2; count = length l.left })
-  left_inside = omega (arith, line_length, body_begins)
+  pub left_listed : vars_of s (record { place = 2; count = length l.left }) ≡ l.left
+  left_listed =
+      vars_inside s (record { place = 2; count = length l.left }) (omega (arith, line_length, body_begins))
+      ∙ listed_names s 2 l.left (41 ∷ (61 ∷ (text l.body ++ (59 ∷ names l.order)))) left_there
 
-  pub order_inside : Inside s (record { place = order_place l; count = length l.order })
-  order_inside = omega (arith, line_length)
+  pub order_listed : vars_of s (record { place = order_place l; count = length l.order }) ≡ l.order
+  order_listed = vars_inside s (record { place = order_place l; count = length l.order }) (omega (arith, line_length)) ∙ listed_names s (order_place l) l.order [] order_there
 
   pub left_count : (body_place l - 3) / 2 ≡ length l.left
   left_count = omega (arith, body_begins)
@@ -55,6 +52,3 @@ module _ (s : List ℕ) (l : Syntax) (h : Spells s l) where
 
   pub accesses_few : length (placed_accesses l) ≤ 85
   accesses_few = omega (arith, few_accesses l.body (body_place l), line_length, h.short)
-
-  pub body_short : body_place l + length (text l.body) ≤ 256
-  body_short = omega (arith, line_length, h.short)

@@ -1,17 +1,17 @@
 -- Sums inside brackets and terms, one node on. Assumes nothing.
 use Rattle.std.proofs.Common.{◌≡◌, ℕ, ◌+◌, ◌<◌, Bool, true, false, cond, not, ◌&&◌, List, [], ◌∷◌, map, length, Some, None, Decides, Option, sym, refl, ap, ◌∙◌, arith}
 use Rattle.std.proofs.lemmas.List.{map-append}
-use Rattle.reader.specs.declared.nodes.Node.{Node}
-use Rattle.reader.specs.declared.nodes.Node.TheVariants.{Access, Group, Times, Plus}
+use Rattle.reader.specs.declared.node.Node.{Node}
+use Rattle.reader.specs.declared.node.Node.TheVariants.{Access, Group, Times, Plus}
 use Rattle.model.specs.Grammar.{Tree, access, group, times, plus, text, Vars}
 use Rattle.model.specs.Reading.{terms_from}
 use Rattle.model.specs.Conditions.{first_fault, tree_vars, all_in, same_vars, last_product, additions}
 use Rattle.reader.specs.Nodes.{node}
 use Rattle.reader.proofs.Views.{at_access, at_group, at_times, at_plus}
+use Rattle.reader.specs.declared.vars.VarList.{VarList}
 use Rattle.lines.specs.declared.sets.VarSet.{VarSet}
 use Rattle.lines.specs.Sets.{SetOf, Within}
-use Rattle.lines.specs.Limits.{or_next}
-use Rattle.lines.specs.Tables.{NodeOf}
+use Rattle.std.specs.Option.{option_or}
 use Rattle.lines.specs.Ties.{Tied}
 use Rattle.lines.specs.Evenness.{HasVars, PlusEvenly, SumsEvenly, term_check, TermHas, TermsHave}
 use Rattle.lines.proofs.FirstFaults.{first_fault_append, first_fault_cons}
@@ -24,40 +24,39 @@ tied_begins s (group t) at h = omega (arith, tied_begins s t (at + 1) h)
 tied_begins s (times a b) at h = tied_begins s a at h.0
 tied_begins s (plus a b) at h = tied_begins s a at h.0
 
-module _ (s : List ℕ) (ns : List Node) (i : ℕ) where
-  pub sign_inside : (p j k : ℕ) → node ns i ≡ Plus p j k → NodeOf (Tied s) ns i → p + 1 < length s
-  sign_inside p j k e r =
-      at_plus (λ at t. Tied s at t → p + 1 < length s) ns i p j k e
-      (λ a b at x lj lk ha hb td. omega (arith, tied_begins s b (at + length (text a) + 1) td.1)) r.tree r.at r.holds r.need
+or_joined : (p o q : Option ℕ) → option_or (option_or p o) q ≡ option_or p (option_or o q)
+or_joined None o q = refl
+or_joined (Some x) o q = refl
 
+module _ (s : List ℕ) (ns : List Node) (i : ℕ) where
   module _ (inside : Bool) where
     abbrev Is : Option ℕ → ℕ → Tree → Type 0
     Is r at t = Tied s at t → r ≡ first_fault (additions at inside t)
 
-    pub even_access : (p k n : ℕ) → node ns i ≡ Access p k n → SumsEvenly s ns i inside None
+    pub even_access : (p k : ℕ) (n : VarList) → node ns i ≡ Access p k n → SumsEvenly s ns i inside None
     even_access p k n e = at_access (Is None) ns i p k n e (λ l vs x y td. refl)
 
     pub even_group : (p j : ℕ) (r : Option ℕ) → node ns i ≡ Group p j → SumsEvenly s ns j true r → SumsEvenly s ns i inside r
     even_group p j r e w = at_group (Is r) ns i p j e (λ u lt h td. w u (p + 1) h td)
 
-    pub even_times : (j k : ℕ) (p q r : Option ℕ) → node ns i ≡ Times j k → SumsEvenly s ns j inside p → SumsEvenly s ns k inside q → r ≡ or_next p q → SumsEvenly s ns i inside r
+    pub even_times : (j k : ℕ) (p q r : Option ℕ) → node ns i ≡ Times j k → SumsEvenly s ns j inside p → SumsEvenly s ns k inside q → r ≡ option_or p q → SumsEvenly s ns i inside r
     even_times j k p q r e g h is =
         at_times (Is r) ns i j k e
         (λ a b at lj lk ha hb td.
         let right = additions (at + length (text a) + 1) inside b in
-        is ∙ ap (λ x. or_next x q) (g a at ha td.0) ∙ ap (or_next (first_fault (additions at inside a))) (h b (at + length (text a) + 1) hb td.1)
+        is ∙ ap (λ x. option_or x q) (g a at ha td.0) ∙ ap (option_or (first_fault (additions at inside a))) (h b (at + length (text a) + 1) hb td.1)
         ∙ sym (first_fault_append (additions at inside a) right))
 
-    pub even_plus : (z j k : ℕ) (p o q n r : Option ℕ) → node ns i ≡ Plus z j k → SumsEvenly s ns j inside p → PlusEvenly s ns j k z inside o → SumsEvenly s ns k inside q → n ≡ or_next o q → r ≡ or_next p n → SumsEvenly s ns i inside r
-    even_plus z j k p o q n r e g f h next is =
+    pub even_plus : (z j k : ℕ) (p o q r : Option ℕ) → node ns i ≡ Plus z j k → SumsEvenly s ns j inside p → PlusEvenly s ns j k z inside o → SumsEvenly s ns k inside q → r ≡ option_or (option_or p o) q → SumsEvenly s ns i inside r
+    even_plus z j k p o q r e g f h is =
         at_plus (Is r) ns i z j k e
         (λ a b at x lj lk ha hb td.
         let right = additions (at + length (text a) + 1) inside b in
         let test = inside && not (same_vars (tree_vars (last_product a)) (tree_vars b)) in
         let here : o ≡ cond test (Some (at + length (text a))) None = f a at ha td.0 b (at + length (text a) + 1) hb td.1 ∙ ap (λ y. cond test (Some y) None) (sym x) in
-        let rest : n ≡ first_fault ((at + length (text a), test) ∷ right) =
-        next ∙ ap (λ y. or_next y q) here ∙ ap (or_next (cond test (Some (at + length (text a))) None)) (h b (at + length (text a) + 1) hb td.1) ∙ first_fault_cons (at + length (text a), test) right in
-        is ∙ ap (λ y. or_next y n) (g a at ha td.0) ∙ ap (or_next (first_fault (additions at inside a))) rest
+        let rest : option_or o q ≡ first_fault ((at + length (text a), test) ∷ right) =
+        ap (λ y. option_or y q) here ∙ ap (option_or (cond test (Some (at + length (text a))) None)) (h b (at + length (text a) + 1) hb td.1) ∙ first_fault_cons (at + length (text a), test) right in
+        is ∙ or_joined p o q ∙ ap (λ y. option_or y (option_or o q)) (g a at ha td.0) ∙ ap (option_or (first_fault (additions at inside a))) rest
         ∙ sym (first_fault_append (additions at inside a) ((at + length (text a), test) ∷ right)))
 
   module _ (left : VarSet) where
@@ -75,14 +74,15 @@ module _ (s : List ℕ) (ns : List Node) (i : ℕ) where
     terms_other at r nay w (times a b) p h td is ls vars sl = ap (λ x. cond r None (Some x)) (sym is) ∙ alone r (all_in ls (tree_vars (times a b))) p (w (times a b) p h td ls vars sl)
     terms_other at r nay w (plus a b) p h td is ls vars sl = absurd (nay (p + length (text a)) h.0 h.1 h.4)
 
-    pub terms_plus : (at z j k : ℕ) (before : Option ℕ) (r : Bool) (o : Option ℕ) → node ns i ≡ Plus z j k → TermsHave s ns j at left before → TermHas s ns k left r → o ≡ or_next before (cond r None (Some (z + 1))) → TermsHave s ns i at left o
-    terms_plus at z j k before r o e g h is =
+    pub terms_plus : (at z q j k : ℕ) (before : Option ℕ) (r : Bool) (o : Option ℕ) → node ns i ≡ Plus z j k → (z + 1 < length s → q ≡ z + 1) → TermsHave s ns j at left before → TermHas s ns k left r → o ≡ option_or before (cond r None (Some q)) → TermsHave s ns i at left o
+    terms_plus at z q j k before r o e inner g h is =
         at_plus (λ p t. Tied s p t → p ≡ at → (ls : List ℕ) → Vars ls → SetOf ls left → o ≡ first_fault (map (term_check ls) (terms_from p t))) ns i z j k e
         (λ a b p x lj lk ha hb td same ls vars sl.
-        let q = p + length (text a) + 1 in
-        let last : cond r None (Some (z + 1)) ≡ first_fault (map (term_check ls) (record { place = q; tree = b } ∷ [])) =
-        ap (λ y. cond r None (Some (y + 1))) (sym x) ∙ alone r (all_in ls (tree_vars b)) q (h b q hb td.1 ls vars sl) in
-        is ∙ ap (λ y. or_next y (cond r None (Some (z + 1)))) (g a p ha td.0 same ls vars sl)
-        ∙ ap (or_next (first_fault (map (term_check ls) (terms_from p a)))) last
-        ∙ sym (first_fault_append (map (term_check ls) (terms_from p a)) (map (term_check ls) (record { place = q; tree = b } ∷ [])))
-        ∙ sym (ap first_fault (map-append (term_check ls) (terms_from p a) (record { place = q; tree = b } ∷ []))))
+        let m = p + length (text a) + 1 in
+        let there : q ≡ m = inner (omega (arith, tied_begins s b m td.1)) ∙ ap (λ y. y + 1) (sym x) in
+        let last : cond r None (Some q) ≡ first_fault (map (term_check ls) (record { place = m; tree = b } ∷ [])) =
+        ap (λ y. cond r None (Some y)) there ∙ alone r (all_in ls (tree_vars b)) m (h b m hb td.1 ls vars sl) in
+        is ∙ ap (λ y. option_or y (cond r None (Some q))) (g a p ha td.0 same ls vars sl)
+        ∙ ap (option_or (first_fault (map (term_check ls) (terms_from p a)))) last
+        ∙ sym (first_fault_append (map (term_check ls) (terms_from p a)) (map (term_check ls) (record { place = m; tree = b } ∷ [])))
+        ∙ sym (ap first_fault (map-append (term_check ls) (terms_from p a) (record { place = m; tree = b } ∷ []))))

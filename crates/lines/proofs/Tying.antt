@@ -1,11 +1,10 @@
 -- A tree whose text stands at a place of s is tied to s there. Assumes nothing.
-use Rattle.std.proofs.Common.{◌≡◌, ℕ, ◌+◌, ◌-◌, ◌*◌, ◌≤◌, List, [], ◌∷◌, ◌++◌, map, length, get_or, drop, sym, refl, ap, ◌∙◌, subst, arith, length-append, length-drop}
+use Rattle.std.proofs.Common.{◌≡◌, ℕ, ◌+◌, ◌-◌, ◌*◌, ◌≤◌, List, [], ◌∷◌, ◌++◌, map, length, get_or, drop, sym, refl, ap, ◌∙◌, arith, length-append, length-drop}
 use Rattle.std.proofs.lemmas.List.{append_assoc, map-append, get_or-drop, drop-drop, drop_at}
-use Rattle.std.specs.List.{AllByRecursion}
-use Rattle.std.proofs.ByRecursion.{All-append}
 use Rattle.model.specs.Grammar.{Tree, access, group, times, plus, commas, names, text, Vars, Grammatical}
 use Rattle.model.specs.Reading.{PlacedAccess, accesses_from}
-use Rattle.lines.specs.Lists.{listed, Inside}
+use Rattle.reader.specs.Lists.{listed}
+use Rattle.reader.proofs.Having.{vars_inside}
 use Rattle.lines.specs.Tables.{entry, stood_for}
 use Rattle.lines.specs.Ties.{Tied}
 
@@ -74,19 +73,9 @@ module _ (s : List ℕ) where
   both_stand xs ys g h =
       ap (map (stood_for s)) (map-append entry xs ys) ∙ map-append (stood_for s) (map entry xs) (map entry ys) ∙ ap (λ l. l ++ map (stood_for s) (map entry ys)) g ∙ ap (λ l. xs ++ l) h
 
-  both_inside : (xs ys : List PlacedAccess) → AllByRecursion (λ e. Inside s e.vars) (map entry xs) → AllByRecursion (λ e. Inside s e.vars) (map entry ys) → AllByRecursion (λ e. Inside s e.vars) (map entry (xs ++ ys))
-  both_inside xs ys g h = subst (AllByRecursion (λ e. Inside s e.vars)) (sym (map-append entry xs ys)) (All-append (λ e. Inside s e.vars) (map entry xs) (map entry ys) g h)
-
   -- the entries of a tied tree stand for its accesses
   pub entries_stand : (t : Tree) (at : ℕ) → Tied s at t → map (stood_for s) (map entry (accesses_from at t)) ≡ accesses_from at t
-  entries_stand (access l vs) at h = ap (λ us. record { place = at; of = record { slot = l - 65; vars = us } } ∷ []) h.0
+  entries_stand (access l vs) at h = ap (λ us. record { place = at; of = record { slot = l - 65; vars = us } } ∷ []) (vars_inside s (record { place = at + 2; count = length vs }) h.1 ∙ h.0)
   entries_stand (group t) at h = entries_stand t (at + 1) h
   entries_stand (times a b) at h = both_stand (accesses_from at a) (accesses_from (at + length (text a) + 1) b) (entries_stand a at h.0) (entries_stand b (at + length (text a) + 1) h.1)
   entries_stand (plus a b) at h = both_stand (accesses_from at a) (accesses_from (at + length (text a) + 1) b) (entries_stand a at h.0) (entries_stand b (at + length (text a) + 1) h.1)
-
-  -- their variables are inside the text
-  pub entries_inside : (t : Tree) (at : ℕ) → Tied s at t → AllByRecursion (λ e. Inside s e.vars) (map entry (accesses_from at t))
-  entries_inside (access l vs) at h = (h.1, tt)
-  entries_inside (group t) at h = entries_inside t (at + 1) h
-  entries_inside (times a b) at h = both_inside (accesses_from at a) (accesses_from (at + length (text a) + 1) b) (entries_inside a at h.0) (entries_inside b (at + length (text a) + 1) h.1)
-  entries_inside (plus a b) at h = both_inside (accesses_from at a) (accesses_from (at + length (text a) + 1) b) (entries_inside a at h.0) (entries_inside b (at + length (text a) + 1) h.1)

@@ -1,6 +1,6 @@
 -- The variables of nodes, and the sums and terms that lack some, as they are tried on the nodes. Assumes nothing.
 use Rattle.std.specs.Prelude.{◌≡◌, ℕ, Bool, cond, not, ◌&&◌, List, map, Some, None, Option}
-use Rattle.reader.specs.declared.nodes.Node.{Node}
+use Rattle.reader.specs.declared.node.Node.{Node}
 use Rattle.model.specs.Grammar.{Tree, Vars}
 use Rattle.model.specs.Reading.{Placed, terms_from}
 use Rattle.model.specs.Conditions.{Check, first_fault, tree_vars, all_in, same_vars, last_product, additions}

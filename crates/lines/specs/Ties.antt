@@ -1,7 +1,7 @@
 -- How a tree stands in a text: the variables of each access, at their places. Assumes nothing.
 use Rattle.std.specs.Prelude.{◌≡◌, ℕ, ◌+◌, ◌*◌, ◌≤◌, List, length}
 use Rattle.model.specs.Grammar.{Tree, access, group, times, plus, text, Vars}
-use Rattle.lines.specs.Lists.{listed}
+use Rattle.reader.specs.Lists.{listed}
 
 -- the tree of a line is written in s from `at` on
 abbrev pub Tied : List ℕ → ℕ → Tree → Type 0

@@ -1,78 +1,38 @@
 // The accesses of a line, in a table.
-ghost use Rattle.std.specs.Prelude.{◌≡◌, ◌<◌, ◌≤◌, [], ◌∷◌, map};
+ghost use Rattle.std.specs.Prelude.{◌≡◌, map};
 ghost use Rattle.model.specs.Conditions.{first_fault, beyond};
-ghost use Rattle.lines.specs.Tables.{entries, Added, NodeOf, FitsIn, Collected};
+ghost use Rattle.lines.specs.Tables.{Collected};
 
-use crate::vars::VarList;
-use reader::Node;
+use arrayvec::ArrayVec;
+use reader::{Arena, Node, VarList};
 
 // An access: the place of its letter, its slot, and its variables.
-#[derive(Clone, Copy)]
+#[derive(Clone, Copy, Debug, Default, PartialEq, Eq)]
 pub struct Access {
     pub place: usize,
     pub slot: usize,
     pub vars: VarList,
 }
 
-// From left to right. An access takes at least three bytes of the line, so those of any line have room.
-#[derive(Clone, Copy)]
-pub struct Accesses {
-    pub list: [Access; 128],
-    pub len: usize,
-}
-
-impl Accesses {
-    fn push(&mut self, access: Access)
-        requires { self.old.len < 128 }
-        ensures { Added self.old self.new (access ∷ []) }
-    {
-        let at = self.len;
-        self.list[at] = access;
-        self.len = at + 1;
-    }
-
-    pub(crate) fn as_slice(&self) -> &[Access]
-        requires { self.now.len ≤ 128 }
-        ensures { result.now ≡ entries self.now }
-    {
-        &self.list[0..self.len]
-    }
-
-    // The place of the ninth.
-    pub(crate) fn ninth(&self) -> Option<usize>
-        requires { self.now.len ≤ 128 }
-        ensures { result ≡ first_fault (beyond 8 (map (λ e. e.place) (entries self.now))) }
-    {
-        if self.len > 8 {
-            Some(self.list[8].place)
-        } else {
-            None
-        }
-    }
-}
-
-// Adds the accesses of a node.
-pub(crate) fn collect(nodes: &[Node], i: usize, into: &mut Accesses)
-    requires { NodeOf (FitsIn into.old) nodes.now i }
-    ensures { Collected nodes.now i into.old into.new }
+// The place of the ninth access.
+pub(crate) fn ninth(accesses: &[Access]) -> Option<usize>
+    ensures { result ≡ first_fault (beyond 8 (map (λ e. e.place) accesses.now)) }
 {
-    match nodes[i] {
-        Node::Access { place, slot, vars } => into.push(Access {
-            place,
-            slot,
-            vars: VarList {
-                place: place + 2,
-                count: vars,
-            },
-        }),
-        Node::Group { inner, .. } => collect(nodes, inner, into),
-        Node::Times { left, right } => {
-            collect(nodes, left, into);
-            collect(nodes, right, into);
+    accesses.get(8).map(|access| access.place)
+}
+
+// Adds the accesses of a node, from left to right. An access takes at least three bytes of the line, so those of any line have room.
+pub(crate) fn collect(arena: &Arena, at: usize, into: &mut ArrayVec<Access, 128>)
+    ensures { Collected arena.now.nodes.items at into.old.items into.new.items }
+{
+    match arena.node(at) {
+        Node::Access { place, slot, vars } => {
+            let _ = into.try_push(Access { place, slot, vars });
         }
-        Node::Plus { left, right, .. } => {
-            collect(nodes, left, into);
-            collect(nodes, right, into);
+        Node::Group { inner, .. } => collect(arena, inner, into),
+        Node::Times { left, right } | Node::Plus { left, right, .. } => {
+            collect(arena, left, into);
+            collect(arena, right, into);
         }
     }
 }

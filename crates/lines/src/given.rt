@@ -1,29 +1,21 @@
 // What a line sees of the slots.
-ghost use Rattle.std.specs.Prelude.{◌≡◌, ℕ, List, length};
+ghost use Rattle.std.specs.Prelude.{◌≡◌, ℕ, List, length, Some, None};
+ghost use Rattle.std.specs.Option.{MatchOption};
 ghost use Rattle.model.specs.Conditions.{fits_slot, extents_of};
-ghost use Rattle.lines.specs.Given.{shown, slots_of, ExtentAt};
+ghost use Rattle.lines.specs.Given.{shown, slots_of};
 
 // The extents of a tensor of so many arguments, at most three.
-#[derive(Clone, Copy)]
+#[derive(Clone, Copy, Debug, PartialEq, Eq)]
 pub struct Extents {
     pub rank: usize,
     pub extents: [u32; 3],
 }
 
 impl Extents {
-    fn count(&self) -> usize
-        ensures { result ≡ length (shown self.now) }
+    fn shown(&self) -> &[u32]
+        ensures { result.now ≡ shown self.now }
     {
-        if self.rank < 3 { self.rank } else { 3 }
-    }
-
-    fn get(&self, k: usize) -> Option<u32>
-        ensures { ExtentAt (shown self.now) k result }
-    {
-        if k >= self.count() {
-            return None;
-        }
-        Some(self.extents[k])
+        &self.extents[..self.rank.min(3)]
     }
 }
 
@@ -34,28 +26,26 @@ pub struct Slots {
 }
 
 impl Slots {
+    fn tensor(&self, slot: usize) -> Option<&Extents>
+        ensures { MatchOption result (slots_of self.now slot ≡ None) (λ e. slots_of self.now slot ≡ Some (shown e.now)) }
+    {
+        self.tensors.get(slot)?.as_ref()
+    }
+
     pub(crate) fn fits(&self, slot: usize, count: usize) -> bool
         ensures { (vs : List ℕ) → length vs ≡ count → result ≡ fits_slot (slots_of self.now slot) vs }
     {
-        if slot >= 8 {
-            return false;
-        }
-        match self.tensors[slot] {
-            None => false,
-            Some(extents) => extents.count() == count,
-        }
+        self.tensor(slot)
+            .is_some_and(|extents| extents.shown().len() == count)
     }
 
-    // The extent of the argument of number k of the tensor in a slot.
-    pub(crate) fn extent(&self, slot: usize, k: usize) -> Option<u32>
-        ensures { ExtentAt (extents_of (slots_of self.now slot)) k result }
+    // The extents of the tensor in a slot, if it holds one.
+    pub(crate) fn extents(&self, slot: usize) -> &[u32]
+        ensures { result.now ≡ extents_of (slots_of self.now slot) }
     {
-        if slot >= 8 {
-            return None;
-        }
-        match self.tensors[slot] {
-            None => None,
-            Some(extents) => extents.get(k),
+        match self.tensor(slot) {
+            None => &[],
+            Some(extents) => extents.shown(),
         }
     }
 }

@@ -12,11 +12,10 @@ mod line;
 mod misfits;
 mod orders;
 mod sets;
-mod vars;
 
-pub use accesses::{Access, Accesses};
+pub use accesses::Access;
 pub use faults::{LineFault, Rule};
 pub use given::{Extents, Slots};
 pub use judging::read_line;
 pub use line::Syntax;
-pub use vars::VarList;
+pub use reader::VarList;

@@ -1,35 +1,20 @@
 // The limits of a line, each by the first item that is too much.
 ghost use Rattle.std.specs.Prelude.{◌≡◌, ◌≤◌, not, ◌&&◌, [], ◌∷◌, map};
-ghost use Rattle.std.specs.List.{AllByRecursion};
+ghost use Rattle.std.specs.List.{flat_map};
 ghost use Rattle.model.specs.Grammar.{is_var};
 ghost use Rattle.model.specs.Conditions.{first_fault, beyond, places, firsts, leftmost};
 ghost use Rattle.lines.specs.Sets.{in_set};
-ghost use Rattle.lines.specs.Tables.{NodeOf, NoNeed};
-ghost use Rattle.lines.specs.Limits.{or_next, letters, crowded, Deep};
+ghost use Rattle.std.specs.Option.{option_or};
+ghost use Rattle.lines.specs.Limits.{letters, crowded, Deep};
 
 use crate::accesses::Access;
 use crate::sets::VarSet;
-use crate::vars::VarList;
-use reader::{Node, is_var};
+use reader::{Arena, Node, VarList, is_var};
 
 pub(crate) fn left_of(p: Option<usize>, q: Option<usize>) -> Option<usize>
     ensures { result ≡ leftmost p q }
 {
-    match (p, q) {
-        (None, _) => q,
-        (_, None) => p,
-        (Some(a), Some(b)) => Some(a.min(b)),
-    }
-}
-
-// The first of two, if any.
-pub(crate) fn either(p: Option<usize>, q: Option<usize>) -> Option<usize>
-    ensures { result ≡ or_next p q }
-{
-    match p {
-        Some(_) => p,
-        None => q,
-    }
+    p.zip(q).map(|(a, b)| a.min(b)).or(p).or(q)
 }
 
 fn is_new(seen: &VarSet, b: u8) -> bool
@@ -44,56 +29,55 @@ pub(crate) fn fifth_variable(text: &[u8]) -> Option<usize>
 {
     let mut seen = VarSet::new();
     let mut count = 0usize;
-    for i in 0..text.len() {
-        if is_new(&seen, text[i]) {
+    for (place, b) in text.iter().enumerate() {
+        if is_new(&seen, *b) {
             if count >= 4 {
-                return Some(i);
+                return Some(place);
             }
             count += 1;
-            seen.insert(text[i]);
+            seen.insert(*b);
         }
     }
     None
 }
 
-// The fourth variable in the first pair of argument brackets that has so many.
-pub(crate) fn fourth_argument(left: VarList, accesses: &[Access]) -> Option<usize>
-    requires left { left.place ≤ 257 }
-    requires table { AllByRecursion (λ e. e.vars.place ≤ 257) accesses.now }
-    ensures { result ≡ first_fault (crowded left ∷ map (λ e. crowded e.vars) accesses.now) }
+fn fourth(text: &[u8], vars: VarList) -> Option<usize>
+    ensures { result ≡ first_fault (crowded text.now vars) }
 {
-    if left.count > 3 {
-        return Some(left.place + 6);
+    vars.vars(text).nth(3).map(|(place, _)| place)
+}
+
+// The fourth variable in the first pair of argument brackets that has so many.
+pub(crate) fn fourth_argument(text: &[u8], left: VarList, accesses: &[Access]) -> Option<usize>
+    ensures { result ≡ option_or (first_fault (crowded text.now left)) (first_fault (flat_map (λ e. crowded text.now e.vars) accesses.now)) }
+{
+    if let Some(place) = fourth(text, left) {
+        return Some(place);
     }
     for access in accesses {
-        if access.vars.count > 3 {
-            return Some(access.vars.place + 6);
+        if let Some(place) = fourth(text, access.vars) {
+            return Some(place);
         }
     }
     None
 }
 
 // The first bracket that opens while four are open, where `depth` are open around the node.
-pub(crate) fn fifth_bracket(nodes: &[Node], i: usize, depth: usize) -> Option<usize>
-    requires node { NodeOf NoNeed nodes.now i }
-    requires shallow { depth ≤ 4 }
-    ensures { Deep nodes.now i depth result }
+pub(crate) fn fifth_bracket(arena: &Arena, at: usize, depth: usize) -> Option<usize>
+    requires { depth ≤ 4 }
+    ensures { Deep arena.now.nodes.items at depth result }
 {
-    match nodes[i] {
+    match arena.node(at) {
         Node::Access { .. } => None,
         Node::Group { place, inner } => {
             if depth >= 4 {
                 return Some(place);
             }
-            fifth_bracket(nodes, inner, depth + 1)
+            fifth_bracket(arena, inner, depth + 1)
         }
-        Node::Times { left, right } => either(
-            fifth_bracket(nodes, left, depth),
-            fifth_bracket(nodes, right, depth),
-        ),
-        Node::Plus { left, right, .. } => either(
-            fifth_bracket(nodes, left, depth),
-            fifth_bracket(nodes, right, depth),
-        ),
+        Node::Times { left, right } | Node::Plus { left, right, .. } => {
+            let before = fifth_bracket(arena, left, depth);
+            before.or(fifth_bracket(arena, right, depth))
+        }
     }
 }

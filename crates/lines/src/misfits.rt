@@ -2,31 +2,23 @@
 ghost use Rattle.std.specs.Prelude.{◌≡◌, map};
 ghost use Rattle.model.specs.Conditions.{first_fault};
 ghost use Rattle.lines.specs.Given.{slots_of};
-ghost use Rattle.lines.specs.Lists.{Inside};
-ghost use Rattle.lines.specs.Tables.{AllInside};
 ghost use Rattle.lines.specs.Checks.{misfit};
 
 use crate::accesses::Access;
 use crate::given::Slots;
 
 fn misfits(text: &[u8], slots: &Slots, access: Access) -> bool
-    requires { Inside text.now access.vars }
     ensures { result ≡ (misfit (slots_of slots.now) text.now access).1 }
 {
-    if !slots.fits(access.slot, access.vars.count) {
-        return true;
-    }
-    access.vars.repeats_one(text)
+    let count = access.vars.vars(text).len();
+    !slots.fits(access.slot, count) || access.vars.repeats_one(text)
 }
 
 pub(crate) fn first_misfit(text: &[u8], slots: &Slots, accesses: &[Access]) -> Option<usize>
-    requires { AllInside text.now accesses.now }
     ensures { result ≡ first_fault (map (misfit (slots_of slots.now) text.now) accesses.now) }
 {
-    for access in accesses {
-        if misfits(text, slots, *access) {
-            return Some(access.place);
-        }
-    }
-    None
+    accesses
+        .iter()
+        .find(|access| misfits(text, slots, **access))
+        .map(|access| access.place)
 }

@@ -1,16 +1,18 @@
 // The commands of a graph one by one, for those who print them: as bytes, by their names, and as a DOT picture.
 #![tactic(auto)]
 
-ghost use Rattle.std.specs.Prelude.{◌<◌, ◌≤◌, length, IfSome};
+ghost use Rattle.std.specs.Prelude.{◌≡◌, ◌∷◌, ◌<◌, ◌≤◌, length, take, IfSome};
 ghost use Rattle.commands.specs.Held.{meant};
-ghost use Rattle.listings.specs.Listings.{StandsAt, FindsModel, streams_read, streams_made, Lists};
+ghost use Rattle.listings.specs.Listings.{StandsAt, FindsModel, streams_read, streams_made};
 
 pub mod printing;
+pub mod walk;
 
-use commands::{Command, Decoded, decode};
+use arrayvec::ArrayVec;
+use commands::{Command, DepthStreams, decode};
 
 // A command, and the place behind its bytes.
-#[derive(Clone, Copy)]
+#[derive(Clone, Copy, PartialEq, Eq, Debug)]
 pub struct Placed {
     pub command: Command,
     pub next: usize,
@@ -25,38 +27,48 @@ pub fn command_at(bytes: &[u8], at: usize) -> Option<Placed>
     if at > bytes.len() {
         return None;
     }
-    match decode(&bytes[at..]) {
-        Decoded::Command(command) => Some(Placed {
-            command,
-            next: at + command.len(),
-        }),
-        Decoded::End => None,
-        Decoded::Unknown => None,
-    }
+    let Ok(Some(command)) = decode(&bytes[at..]) else {
+        return None;
+    };
+    Some(Placed {
+        command,
+        next: at + command.len(),
+    })
 }
 
-// Numbers of streams: the first `len`.
-#[derive(Clone, Copy)]
-pub struct Streams {
-    pub numbers: [u8; 5],
-    pub len: usize,
+// Numbers of streams. A WRITE at depth 4 reads five, and no command reads or makes more.
+pub type Streams = ArrayVec<u8, 5>;
+
+fn listed(numbers: &[u8]) -> Streams
+    requires { length numbers.now ≤ 5 }
+    ensures { result.items ≡ numbers.now }
+{
+    let mut streams = Streams::new();
+    streams.try_extend_from_slice(numbers).unwrap();
+    streams
+}
+
+// The values of a WRITE, and its coordinate streams down to its depth.
+fn leaves(depth: u8, values: u8, coordinates: DepthStreams) -> Streams
+    ensures { result.items ≡ values ∷ take depth coordinates.bytes }
+{
+    let mut streams = listed(&[values]);
+    let depth = usize::from(depth).min(4);
+    streams
+        .try_extend_from_slice(&coordinates.bytes[..depth])
+        .unwrap();
+    streams
 }
 
 // The streams that a command reads.
 pub fn reads(command: Command) -> Streams
-    ensures { Lists result (streams_read (meant command)) }
+    ensures { result.items ≡ streams_read (meant command) }
 {
     match command {
-        Command::Root { .. } => Streams {
-            numbers: [0; 5],
-            len: 0,
-        },
+        Command::Root { .. } => Streams::new(),
         Command::Scan { references: a, .. }
         | Command::Load { references: a, .. }
-        | Command::Sum { a, .. } => Streams {
-            numbers: [a, 0, 0, 0, 0],
-            len: 1,
-        },
+        | Command::Sum { a, .. } => listed(&[a]),
         Command::Meet { a, b, .. }
         | Command::Join { a, b, .. }
         | Command::Mul { a, b, .. }
@@ -65,40 +77,25 @@ pub fn reads(command: Command) -> Streams
             references: a,
             z: b,
             ..
-        } => Streams {
-            numbers: [a, b, 0, 0, 0],
-            len: 2,
-        },
+        } => listed(&[a, b]),
         Command::Align {
             coordinates,
             references,
             z,
             ..
-        } => Streams {
-            numbers: [coordinates, references, z, 0, 0],
-            len: 3,
-        },
+        } => listed(&[coordinates, references, z]),
         Command::Write {
             depth,
             values,
             coordinates,
             ..
-        } => Streams {
-            numbers: [
-                values,
-                coordinates.first,
-                coordinates.second,
-                coordinates.third,
-                coordinates.fourth,
-            ],
-            len: 1 + (depth as usize).min(4),
-        },
+        } => leaves(depth, values, coordinates),
     }
 }
 
 // The streams that a command makes.
 pub fn makes(command: Command) -> Streams
-    ensures { Lists result (streams_made (meant command)) }
+    ensures { result.items ≡ streams_made (meant command) }
 {
     match command {
         Command::Root { out }
@@ -109,21 +106,12 @@ pub fn makes(command: Command) -> Streams
         | Command::Load { out, .. }
         | Command::Mul { out, .. }
         | Command::Add { out, .. }
-        | Command::Sum { out, .. } => Streams {
-            numbers: [out, 0, 0, 0, 0],
-            len: 1,
-        },
+        | Command::Sum { out, .. } => listed(&[out]),
         Command::Scan {
             coordinates_out,
             references_out,
             ..
-        } => Streams {
-            numbers: [coordinates_out, references_out, 0, 0, 0],
-            len: 2,
-        },
-        Command::Write { .. } => Streams {
-            numbers: [0; 5],
-            len: 0,
-        },
+        } => listed(&[coordinates_out, references_out]),
+        Command::Write { .. } => Streams::new(),
     }
 }

@@ -1,5 +1,6 @@
 // Graphs in print.
-use crate::{command_at, makes, reads};
+use crate::walk::Commands;
+use crate::{makes, reads};
 use commands::Command;
 use std::fmt;
 
@@ -15,27 +16,10 @@ pub struct Named<'a>(pub &'a [u8]);
 #[derive(Clone, Copy)]
 pub struct Dot<'a>(pub &'a [u8]);
 
-// A command by its name, with its operands.
-fn show<W: fmt::Write>(command: Command, f: &mut fmt::Formatter<W>) -> fmt::Result {
-    let mut row = [0u8; 10];
-    let size = command.encode(&mut row).unwrap_or(0);
-    f.write_str(command.name())?;
-    for i in 1..10usize {
-        if i < size {
-            let operand = row[i];
-            write!(f, " {operand}")?;
-        }
-    }
-    Ok(())
-}
-
 impl fmt::Display for Named<'_> {
     fn fmt<W: fmt::Write>(&self, f: &mut fmt::Formatter<W>) -> fmt::Result {
-        let mut at = 0;
-        'commands: while let Some(placed) = command_at(self.0, at) {
-            show(placed.command, f)?;
-            writeln!(f)?;
-            at = placed.next;
+        for (_, placed) in Commands::of(self.0) {
+            writeln!(f, "{}", placed.command)?;
         }
         Ok(())
     }
@@ -43,22 +27,20 @@ impl fmt::Display for Named<'_> {
 
 fn show_bytes<W: fmt::Write>(bytes: &[u8], f: &mut fmt::Formatter<W>) -> fmt::Result {
     for byte in bytes {
-        let byte = *byte;
-        write!(f, "{byte:02X} ")?;
+        write!(f, "{:02X} ", *byte)?;
     }
     writeln!(f)
 }
 
 impl fmt::Display for Hexadecimal<'_> {
     fn fmt<W: fmt::Write>(&self, f: &mut fmt::Formatter<W>) -> fmt::Result {
-        let mut at = 0;
-        'commands: while let Some(placed) = command_at(self.0, at) {
-            let next = placed.next;
-            show_bytes(&self.0[at..next], f)?;
-            at = next;
+        let mut end = 0;
+        for (at, placed) in Commands::of(self.0) {
+            end = placed.next;
+            show_bytes(&self.0[at..end], f)?;
         }
         // what is no command: the end
-        show_bytes(&self.0[at..], f)
+        show_bytes(&self.0[end..], f)
     }
 }
 
@@ -68,15 +50,11 @@ fn show_edges<W: fmt::Write>(
     index: usize,
     f: &mut fmt::Formatter<W>,
 ) -> fmt::Result {
-    let inputs = reads(command);
-    for i in 0..inputs.len {
-        let stream = inputs.numbers[i];
-        writeln!(f, "    s{stream} -> c{index};")?;
+    for stream in &reads(command) {
+        writeln!(f, "    s{} -> c{index};", *stream)?;
     }
-    let outputs = makes(command);
-    for i in 0..outputs.len {
-        let stream = outputs.numbers[i];
-        writeln!(f, "    c{index} -> s{stream};")?;
+    for stream in &makes(command) {
+        writeln!(f, "    c{index} -> s{};", *stream)?;
     }
     Ok(())
 }
@@ -84,13 +62,9 @@ fn show_edges<W: fmt::Write>(
 impl fmt::Display for Dot<'_> {
     fn fmt<W: fmt::Write>(&self, f: &mut fmt::Formatter<W>) -> fmt::Result {
         writeln!(f, "digraph commands {{")?;
-        let mut at = 0;
-        'commands: while let Some(placed) = command_at(self.0, at) {
-            write!(f, "    c{at} [shape=box, label=\"")?;
-            show(placed.command, f)?;
-            writeln!(f, "\"];")?;
+        for (at, placed) in Commands::of(self.0) {
+            writeln!(f, "    c{at} [shape=box, label=\"{}\"];", placed.command)?;
             show_edges(placed.command, at, f)?;
-            at = placed.next;
         }
         writeln!(f, "}}")
     }

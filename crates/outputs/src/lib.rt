@@ -2,4 +2,5 @@
 #![tactic(auto)]
 
 pub mod item;
+pub mod lookup;
 pub mod source;

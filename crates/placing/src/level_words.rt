@@ -5,10 +5,9 @@ ghost use Rattle.slots.specs.Records.{slot_list, sizes};
 ghost use Rattle.plans.specs.Rooms.{rules_of};
 ghost use Rattle.placing.specs.Lying.{LevelLies, LevelAnswer};
 
-use crate::parts::start_of;
 use crate::places::PlacedLevel;
 use levels::Formats;
-use slots::{SlotSizes, Slots, TensorRecord};
+use slots::{SlotNumber, SlotSizes, Slots, TensorRecord};
 
 // How many words the first `count` levels take of a part that has `limit`.
 fn words_of<S: Formats>(tensor: TensorRecord, count: usize, limit: usize) -> usize
@@ -16,8 +15,7 @@ fn words_of<S: Formats>(tensor: TensorRecord, count: usize, limit: usize) -> usi
     ensures { result ≡ min (needed (rules_of S.wants S.births) (take count (sizes tensor))) limit }
 {
     let mut end: usize = 0;
-    for i in 0..count {
-        let level = tensor.levels[i];
+    for level in &tensor.levels[..count] {
         let need = S::need(level.format, level.size);
         end = end.saturating_add(need).min(limit);
     }
@@ -28,22 +26,18 @@ fn words_of<S: Formats>(tensor: TensorRecord, count: usize, limit: usize) -> usi
 fn place_level<S: Formats>(
     tensor: TensorRecord,
     room: SlotSizes,
-    slot: usize,
+    slot: SlotNumber,
     level: usize,
 ) -> PlacedLevel
-    requires in_range { slot ≤ 7 }
-    requires there { level < tensor.rank }
-    ensures { LevelLies (rules_of S.wants S.births) S.meaning room.level_words slot tensor level result }
+    requires { level < tensor.rank }
+    ensures { LevelLies (rules_of S.wants S.births) S.meaning room.level_words slot.number tensor level result }
 {
-    let record = tensor.levels[level];
-    let part = start_of(slot, room.level_words);
+    let part = room.first_word(slot);
     let before = words_of::<S>(tensor, level, room.level_words);
     let through = words_of::<S>(tensor, level + 1, room.level_words);
     PlacedLevel {
-        number: record.format,
-        size: record.size,
-        start: part + before,
-        end: part + through,
+        record: tensor.levels[level],
+        words: part + before..part + through,
     }
 }
 
@@ -56,11 +50,9 @@ pub fn level_at<S: Formats>(
 ) -> Option<PlacedLevel>
     ensures { LevelAnswer (rules_of S.wants S.births) S.meaning room.level_words slot level (slice_index_or (slot_list slots.now) slot None) result }
 {
-    let Some(tensor) = slots.get(slot) else {
-        return None;
-    };
+    let (number, tensor) = slots.filled(slot)?;
     if level >= tensor.rank {
         return None;
     }
-    Some(place_level::<S>(tensor, room, slot, level))
+    Some(place_level::<S>(tensor, room, number, level))
 }

@@ -2,10 +2,9 @@
 #![tactic(auto)]
 
 mod level_words;
-mod parts;
 mod places;
 mod value_places;
 
 pub use level_words::level_at;
-pub use places::{PlacedLevel, PlacedValues};
+pub use places::PlacedLevel;
 pub use value_places::values_at;

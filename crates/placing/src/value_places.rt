@@ -1,23 +1,17 @@
 // The values of a tensor: the positions that it uses, at the front of the slot's part.
-ghost use Rattle.std.specs.Prelude.{◌≤◌, None, slice_index_or};
+ghost use Rattle.std.specs.Prelude.{None, slice_index_or};
 ghost use Rattle.slots.specs.Records.{slot_list};
 ghost use Rattle.placing.specs.Lying.{ValuesAnswer};
 
-use crate::parts::start_of;
-use crate::places::PlacedValues;
 use slots::{SlotSizes, Slots};
+use std::ops::Range;
 
 // Where the values of a slot's tensor lie in an area of values of type P; none where the slot is empty.
-pub fn values_at<P>(slots: &Slots, room: SlotSizes, slot: usize) -> Option<PlacedValues>
+pub fn values_at<P>(slots: &Slots, room: SlotSizes, slot: usize) -> Option<Range<usize>>
     ensures { ValuesAnswer P room.positions slot (slice_index_or (slot_list slots.now) slot None) result }
 {
-    let Some(tensor) = slots.get(slot) else {
-        return None;
-    };
-    let start = start_of(slot, room.positions);
+    let (number, tensor) = slots.filled(slot)?;
+    let start = room.first_position(number);
     let used = tensor.positions.min(room.positions);
-    Some(PlacedValues {
-        start,
-        end: start + used,
-    })
+    Some(start..start + used)
 }

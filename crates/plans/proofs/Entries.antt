@@ -1,6 +1,6 @@
 -- Entries as rows of coordinates, and what their checks say.
 use Rattle.std.proofs.Common.{◌≡◌, ℕ, zero, suc, ◌+◌, ◌*◌, ◌<◌, ◌≤◌, Bool, true, false, cond, not, ◌||◌, List, [], ◌∷◌, map, length, get_or, take, drop, Some, None, Option, sym, refl, ap, ◌∙◌, mul-le-mul_left, mul-zero, mul-suc, arith}
-use Rattle.std.specs.List.{AllByRecursion}
+use Rattle.std.specs.List.{AllByRecursion, find, range_with_len}
 use Rattle.std.proofs.ByRecursion.{All-weaker}
 use Rattle.std.proofs.lemmas.List.{drop-drop, drop_more}
 use Rattle.std.proofs.lemmas.Bool.{or_parts, not-false}
@@ -81,3 +81,11 @@ module _ (es : List ℕ) (r n : ℕ) (cs : List ℕ) where
       drop_past zero (x ∷ xs) h = absurd (omega arith)
       drop_past (suc k) [] h = refl
       drop_past (suc k) (x ∷ xs) h = drop_past k xs (omega arith)
+
+  -- the first row that is at fault, looked for from row k on
+  pub faults_found : (m k : ℕ) → k + m ≡ n
+      → find (λ j. outside es (nth_row r cs j) || not (after (prior_row r cs j) (nth_row r cs j))) (range_with_len k m) ≡ faults_from k
+  faults_found zero k h = sym (faults_all k (omega arith))
+  faults_found (suc m) k h =
+      ap (cond (outside es (nth_row r cs k) || not (after (prior_row r cs k) (nth_row r cs k))) (Some k)) (faults_found m (k + 1) (omega arith))
+      ∙ sym (faults_more k (omega arith))

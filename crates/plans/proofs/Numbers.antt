@@ -1,7 +1,7 @@
 -- How many fronts rising rows have: counted row by row, bounded by the extents, and as many as rows at full depth.
-use Rattle.std.proofs.Common.{◌≡◌, ℕ, zero, suc, ◌+◌, ◌*◌, ◌<◌, ◌≤◌, Bool, true, false, cond, eqb, ltb, leb, ◌⊎◌, List, [], ◌∷◌, length, get_or, take, drop, sym, refl, ap, ◌∙◌, subst, ap₂, inl, inr, ⊎_elim, true≢false, add-mul, arith}
+use Rattle.std.proofs.Common.{◌≡◌, ℕ, zero, suc, ◌+◌, ◌*◌, ◌<◌, ◌≤◌, Bool, true, false, cond, not, eqb, ltb, leb, ◌⊎◌, List, [], ◌∷◌, length, get_or, take, drop, sym, refl, ap, ◌∙◌, subst, ap₂, inl, inr, ⊎_elim, true≢false, add-mul, arith}
 use mathlib.Core.Bool.{false≢true}
-use Rattle.std.specs.List.{AllByRecursion}
+use Rattle.std.specs.List.{AllByRecursion, filter, range_with_len}
 use Rattle.std.proofs.ByRecursion.{All-weaker}
 use Rattle.std.proofs.lemmas.List.{take_all, take-take, drop_all}
 use Rattle.std.proofs.lemmas.Bool.{eqb-true, ltb-true, or_parts, leb-false}
@@ -147,23 +147,30 @@ rising_drop (suc k) (x ∷ css) r = rising_drop k css r.1
 
 -- the fronts from row k on
 module _ (d r n : ℕ) (cs : List ℕ) (rising : Rising (rows_of r n cs)) where
-  pub fronts_from : (k : ℕ) → k < n
+  fronts_from : (k : ℕ) → k < n
       → length (fronts d (drop k (rows_of r n cs)))
       ≡ cond {A = ℕ} (next_same d (nth_row r cs k) (drop (k + 1) (rows_of r n cs))) 0 1 + length (fronts d (drop (k + 1) (rows_of r n cs)))
   fronts_from k h =
       ap (λ css. length (fronts d css)) (rows_more r n cs k h)
       ∙ fronts_more d (nth_row r cs k) (drop (k + 1) (rows_of r n cs)) (subst Rising (rows_more r n cs k h) (rising_drop k (rows_of r n cs) rising))
 
-  pub fronts_last : (k : ℕ) → k < n → next_same d (nth_row r cs k) (drop (k + 1) (rows_of r n cs)) ≡ false
-      → length (fronts d (drop k (rows_of r n cs))) ≡ 1 + length (fronts d (drop (k + 1) (rows_of r n cs)))
-  fronts_last k h e = fronts_from k h ∙ ap (λ b. cond {A = ℕ} b 0 1 + length (fronts d (drop (k + 1) (rows_of r n cs)))) e
-
-  pub fronts_again : (k : ℕ) → k < n → next_same d (nth_row r cs k) (drop (k + 1) (rows_of r n cs)) ≡ true
-      → length (fronts d (drop k (rows_of r n cs))) ≡ 0 + length (fronts d (drop (k + 1) (rows_of r n cs)))
-  fronts_again k h e = fronts_from k h ∙ ap (λ b. cond {A = ℕ} b 0 1 + length (fronts d (drop (k + 1) (rows_of r n cs)))) e
-
-  pub fronts_none : (k : ℕ) → n ≤ k → length (fronts d (drop k (rows_of r n cs))) ≡ 0
+  fronts_none : (k : ℕ) → n ≤ k → length (fronts d (drop k (rows_of r n cs))) ≡ 0
   fronts_none k h = ap (λ css. length (fronts d css)) (drop_all k (rows_of r n cs) (omega (arith, rows_long r n cs)))
+
+  -- a front ends at the last row that has it
+  abbrev ends : ℕ → Bool
+  ends k = not (next_same d (nth_row r cs k) (drop (k + 1) (rows_of r n cs)))
+
+  pub fronts_counted : (m k : ℕ) → k + m ≡ n → length (filter ends (range_with_len k m)) ≡ length (fronts d (drop k (rows_of r n cs)))
+  fronts_counted zero k h = sym (fronts_none k (omega arith))
+  fronts_counted (suc m) k h =
+      go (next_same d (nth_row r cs k) (drop (k + 1) (rows_of r n cs))) (fronts_counted m (k + 1) (omega arith)) ∙ sym (fronts_from k (omega arith))
+    where
+      go : (b : Bool) → length (filter ends (range_with_len (k + 1) m)) ≡ length (fronts d (drop (k + 1) (rows_of r n cs)))
+          → length (cond (not b) (k ∷ filter ends (range_with_len (k + 1) m)) (filter ends (range_with_len (k + 1) m)))
+          ≡ cond {A = ℕ} b 0 1 + length (fronts d (drop (k + 1) (rows_of r n cs)))
+      go true ih = omega arith
+      go false ih = omega arith
 
 module _ (d r n : ℕ) (cs x : List ℕ) (k : ℕ) where
   pub next_none : k + 1 ≡ n → next_same d x (drop (k + 1) (rows_of r n cs)) ≡ false

@@ -1,15 +1,17 @@
 -- What refuses a STORE, row by row, and what an accepted one keeps.
-use Rattle.std.proofs.Common.{◌≡◌, ℕ, ◌+◌, ◌*◌, ◌<◌, ◌≤◌, Bool, true, false, cond, not, ◌||◌, eqb, ltb, List, map, length, get_or, Some, None, Ok, sum, Option, sym, refl, ap, ◌∙◌, subst, zero-add, arith}
+use Rattle.std.proofs.Common.{◌≡◌, ℕ, ◌+◌, ◌*◌, ◌<◌, ◌≤◌, Bool, true, false, cond, not, ◌||◌, eqb, ltb, List, map, length, get_or, Some, None, sum, Option, ok_or, sym, refl, ap, ◌∙◌, subst, zero-add, arith}
 use Rattle.std.proofs.lemmas.Bool.{lt-ltb, le-ltb, ltb-false, eqb-true, or_parts, not-false}
 use Rattle.model.specs.Calls.{Request, Fault, no_slot, shape, entry, room}
 use Rattle.model.specs.Formats.{LevelSize}
 use Rattle.model.specs.Conditions.{first_fault}
 use Rattle.model.specs.Stores.{Sizes, FormatRules, some_pass, bad_shape, bad_entry, tensor_of, coordinates_of, entry_checks, entry_fault, no_room, level_sizes, positions_from, sizes_of, store_fault}
-use Rattle.plans.specs.Rows.{rows_of, Ordered}
+use Rattle.plans.specs.Rows.{rows_of, rows_in}
+use Rattle.plans.specs.declared.rows.Rows.{Rows}
+use Rattle.plans.specs.declared.fault.StoreFault.TheVariants.{Room}
 use Rattle.plans.specs.Rooms.{crowded, Measured}
 use Rattle.plans.specs.Requests.{request, wrong_shape, Planned}
 use Rattle.slots.specs.declared.records.TensorRecord.{TensorRecord}
-use Rattle.plans.proofs.Entries.{entry_rows, ordered_checked}
+use Rattle.plans.proofs.Entries.{entry_rows}
 use Rattle.plans.proofs.Passes.{none_passes}
 use Rattle.plans.proofs.Sizings.{sizes_long}
 
@@ -104,35 +106,35 @@ module _ {V : Type 0} (z : Sizes) (rules : FormatRules) (slot rank : ℕ) (es fs
     pub accepted : wrong_shape rank es fs cs n ≡ false → places ≡ None → crowds ≡ false → store_fault z rules q ≡ None
     accepted x y w = decided false None false x y w
 
-    -- the same of what a call finds, whose rows are as long as there are extents
-    module _ (x : wrong_shape rank es fs cs n ≡ false) where
-      by_extents : rows_of (length es) n cs ≡ css
-      by_extents = ap (λ r. rows_of r n cs) (shaped rank es fs cs n x).extents
+    -- the same of the rows that a call finds
+    module _ (x : wrong_shape rank es fs cs n ≡ false) (rows : List (List ℕ)) (are : rows ≡ css) where
+      found : (k : Option ℕ) → k ≡ first_fault (entry_checks es 0 None rows) → places ≡ k
+      found k y = sym (y ∙ ap (λ z. first_fault (entry_checks es 0 None z)) are)
 
-      found : (k : Option ℕ) → k ≡ first_fault (entry_checks es 0 None (rows_of (length es) n cs)) → places ≡ k
-      found k y = sym (y ∙ ap (λ rows. first_fault (entry_checks es 0 None rows)) by_extents)
-
-      pub planned_entry : (k : ℕ) → Some k ≡ first_fault (entry_checks es 0 None (rows_of (length es) n cs)) → store_fault z rules q ≡ Some (entry k)
+      pub planned_entry : (k : ℕ) → Some k ≡ first_fault (entry_checks es 0 None rows) → store_fault z rules q ≡ Some (entry k)
       planned_entry k y = refused_entry k x (found (Some k) y)
 
-      module _ (y : None ≡ first_fault (entry_checks es 0 None (rows_of (length es) n cs))) where
-        pub planned_room : Measured z.level_words z.positions rules (level_sizes rules (rows_of (length es) n cs) 0 1 es fs) None → store_fault z rules q ≡ Some room
-        planned_room m = refused_room x (found None y) (subst (λ rows. crowded z.level_words z.positions rules 0 1 (level_sizes rules rows 0 1 es fs) ≡ true) by_extents m)
+      -- what is answered to levels that are measured
+      pub planned : None ≡ first_fault (entry_checks es 0 None rows) → (o : Option TensorRecord)
+          → Measured z.level_words z.positions rules (level_sizes rules rows 0 1 es fs) o → Planned z rules q (ok_or o Room)
+      planned y None m = refused_room x (found None y) (subst (λ r. crowded z.level_words z.positions rules 0 1 (level_sizes rules r 0 1 es fs) ≡ true) are m)
+      planned y (Some t) m =
+          let m1 = subst (λ r. Measured z.level_words z.positions rules (level_sizes rules r 0 1 es fs) (Some t)) are m in (
+            accepted x (found None y) m1.0,
+            m1.1 ∙ sizes_long rules css 0 1 es fs ((shaped rank es fs cs n x).formats ∙ sym (shaped rank es fs cs n x).extents) ∙ (shaped rank es fs cs n x).extents,
+            m1.2 ∙ sym its_sizes,
+            m1.3 ∙ sym (ap (positions_from 1 rules) its_sizes),
+          )
 
-        pub planned : (t : TensorRecord) → Measured z.level_words z.positions rules (level_sizes rules (rows_of (length es) n cs) 0 1 es fs) (Some t) → Planned z rules q (Ok t)
-        planned t m =
-            let m1 = subst (λ rows. Measured z.level_words z.positions rules (level_sizes rules rows 0 1 es fs) (Some t)) by_extents m in (
-              accepted x (found None y) m1.0,
-              m1.1 ∙ sizes_long rules css 0 1 es fs ((shaped rank es fs cs n x).formats ∙ sym (shaped rank es fs cs n x).extents) ∙ (shaped rank es fs cs n x).extents,
-              m1.2 ∙ sym its_sizes,
-              m1.3 ∙ sym (ap (positions_from 1 rules) its_sizes),
-            )
+-- rows over these coordinates, so many and so long
+pub rows_are : (r : Rows) (rank n : ℕ) (cs : List ℕ) → r.coordinates.now ≡ cs → r.rank ≡ rank → r.count ≡ n → rows_in r ≡ rows_of rank n cs
+rows_are r rank n cs a b c = ap (λ x. rows_of x r.count r.coordinates.now) b ∙ ap (λ x. rows_of rank x r.coordinates.now) c ∙ ap (rows_of rank n) a
 
 -- What an accepted request keeps.
 pub record Accepted (z : Sizes) (rules : FormatRules) (slot rank : ℕ) (es fs cs : List ℕ) (n : ℕ) : Type 0 where
   pub in_range : slot ≤ 7
   pub shape : Shaped rank es fs cs n
-  pub ordered : Ordered es (rows_of rank n cs)
+  pub checked : first_fault (entry_checks es 0 None (rows_of rank n cs)) ≡ None
   pub fits : crowded z.level_words z.positions rules 0 1 (level_sizes rules (rows_of rank n cs) 0 1 es fs) ≡ false
 
 pub accepts : {V : Type 0} (z : Sizes) (rules : FormatRules) (slot rank : ℕ) (es fs cs : List ℕ) (vs : List V) (n : ℕ) → length vs ≡ n
@@ -150,7 +152,7 @@ accepts z rules slot rank es fs cs vs n long h =
     go false false (Some k) c p q r w e = absurd (let x : ◌≡◌ {A = ℕ} 0 1 = cc in omega arith)
     go false false None true p q r w e = absurd (let x : ◌≡◌ {A = ℕ} 0 1 = cc in omega arith)
     go false false None false p q r w e =
-        record { in_range = ltb-false 7 slot p; shape = shaped rank es fs cs n q; ordered = ordered_checked es (rows_of rank n cs) r; fits = w }
+        record { in_range = ltb-false 7 slot p; shape = shaped rank es fs cs n q; checked = r; fits = w }
 
 -- levels that are not crowded have room
 pub roomy : (L P : ℕ) (rules : FormatRules) (ls : List (ℕ × LevelSize)) → crowded L P rules 0 1 ls ≡ false

@@ -1,10 +1,11 @@
 -- What is asked of a STORE, by the arguments of the call, and why it is refused.
-use Rattle.std.specs.Prelude.{◌≡◌, ℕ, ◌*◌, Bool, not, ◌||◌, ltb, List, length, Some, None, Ok, Err, Result, ◌==◌, nat_lt}
+use Rattle.std.specs.Prelude.{◌≡◌, ℕ, ◌*◌, Bool, not, ◌||◌, ltb, List, map, length, Some, None, Ok, Err, Result, ◌==◌, nat_lt}
 use Rattle.model.specs.Calls.{Request, Fault, no_slot, shape, entry, room}
 use Rattle.model.specs.Stores.{Sizes, FormatRules, some_pass, store_fault, sizes_of, positions_used}
 use Rattle.slots.specs.Records.{sizes}
 use Rattle.slots.specs.declared.records.TensorRecord.{TensorRecord}
 use Rattle.plans.specs.declared.fault.StoreFault.{StoreFault}
+use Rattle.plans.specs.declared.request.StoreRequest.{StoreRequest}
 use Rattle.plans.specs.declared.fault.StoreFault.TheVariants.{Slot, Shape, Entry, Room}
 
 abbrev pub fault_of : StoreFault → Fault
@@ -21,6 +22,10 @@ wrong_shape rank es fs cs n =
 
 abbrev pub request : {V : Type 0} → ℕ → ℕ → List ℕ → List ℕ → List ℕ → List V → Request V
 request slot rank es fs cs vs = record { slot = slot; rank = rank; extents = es; formats = fs; coordinates = cs; values = vs }
+
+-- the same of a call, whose plain values are read as values
+abbrev pub asked : {P V : Type 0} → (P → V) → StoreRequest P → Request V
+asked reads r = request r.slot r.rank r.extents.now r.formats.now r.coordinates.now (map reads r.entries.now)
 
 -- the sizes of a rack, of which only those of a slot matter here
 abbrev pub slot_sizes : ℕ → ℕ → Sizes

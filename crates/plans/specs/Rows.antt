@@ -4,6 +4,7 @@ use Rattle.std.specs.List.{AllByRecursion}
 use Rattle.model.specs.Tensors.{same}
 use Rattle.model.specs.Running.{before}
 use Rattle.model.specs.Stores.{outside}
+use Rattle.plans.specs.declared.rows.Rows.{Rows}
 
 -- n rows, each of r coordinates
 abbrev pub rows_of : ℕ → ℕ → List ℕ → List (List ℕ)
@@ -32,3 +33,10 @@ prior_row r cs (suc k) = Some (nth_row r cs k)
 abbrev pub next_same : ℕ → List ℕ → List (List ℕ) → Bool
 next_same d cs [] = false
 next_same d cs (ds ∷ css) = same (take d cs) (take d ds)
+
+-- the rows of a request's entries, and row k of them
+abbrev pub rows_in : Rows → List (List ℕ)
+rows_in r = rows_of r.rank r.count r.coordinates.now
+
+abbrev pub row_in : Rows → ℕ → List ℕ
+row_in r k = nth_row r.rank r.coordinates.now k

@@ -1,36 +1,30 @@
 // The fronts of ascending rows: the first coordinates that they begin with, each counted once.
-ghost use Rattle.std.specs.Prelude.{◌≡◌, ◌+◌, ◌*◌, ◌<◌, ◌≤◌, not, length, drop};
+ghost use Rattle.std.specs.Prelude.{◌≡◌, ◌+◌, ◌<◌, ◌≤◌, not, length, drop};
 ghost use Rattle.model.specs.Stores.{fronts as fronts_of};
-ghost use Rattle.plans.specs.Rows.{rows_of, nth_row, next_same, Rising};
+ghost use Rattle.plans.specs.Rows.{rows_in, row_in, next_same, Rising};
 
-use crate::rows::{is_same, row};
+use crate::rows::Rows;
 
-// Whether row k is the last one with its front: ascending rows with one front stand together.
-pub fn ends_front(coordinates: &[u32], rank: usize, count: usize, depth: usize, k: usize) -> bool
-    requires whole { length coordinates.now ≡ rank * count }
-    requires below { k < count }
-    requires within { depth ≤ rank }
-    ensures { result ≡ not (next_same depth (nth_row rank coordinates.now k) (drop (k + 1) (rows_of rank count coordinates.now))) }
-{
-    if k + 1 == count {
-        return true;
-    }
-    let this = row(coordinates, rank, k);
-    let next = row(coordinates, rank, k + 1);
-    !is_same(&this[0..depth], &next[0..depth])
-}
-
-pub fn count_fronts(coordinates: &[u32], rank: usize, count: usize, depth: usize) -> usize
-    requires whole { length coordinates.now ≡ rank * count }
-    requires within { depth ≤ rank }
-    requires rising { Rising (rows_of rank count coordinates.now) }
-    ensures { result ≡ length (fronts_of depth (rows_of rank count coordinates.now)) }
-{
-    let mut fronts = 0;
-    for k in 0..count {
-        if ends_front(coordinates, rank, count, depth, k) {
-            fronts += 1;
+impl<'a> Rows<'a> {
+    // Whether row k is the last one with its front: ascending rows with one front stand together.
+    pub fn ends_front(&self, depth: usize, k: usize) -> bool
+        requires below { k < self.now.count }
+        requires within { depth ≤ self.now.rank }
+        ensures { result ≡ not (next_same depth (row_in self.now k) (drop (k + 1) (rows_in self.now))) }
+    {
+        if k == self.count - 1 {
+            return true;
         }
+        self.row(k)[..depth] != self.row(k + 1)[..depth]
     }
-    fronts
+
+    pub(crate) fn count_fronts(&self, depth: usize) -> usize
+        requires within { depth ≤ self.now.rank }
+        requires rising { Rising (rows_in self.now) }
+        ensures { result ≡ length (fronts_of depth (rows_in self.now)) }
+    {
+        (0..self.count)
+            .filter(|k| self.ends_front(depth, *k))
+            .count()
+    }
 }

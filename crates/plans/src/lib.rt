@@ -5,11 +5,13 @@ mod checks;
 mod fault;
 mod fronts;
 mod planning;
+mod request;
+mod row_reads;
 mod rows;
 mod shape;
 mod sizing;
 
 pub use fault::StoreFault;
-pub use fronts::ends_front;
 pub use planning::plan;
-pub use rows::coordinate;
+pub use request::StoreRequest;
+pub use rows::Rows;

@@ -2,10 +2,10 @@
 ghost use Rattle.std.specs.Prelude.{◌≡◌, ℕ, ◌*◌, ◌<◌, ◌≤◌, length, MatchOption, OnSome, slice_index};
 ghost use Rattle.model.specs.Stores.{level_sizes};
 ghost use Rattle.slots.specs.Records.{level_of};
-ghost use Rattle.plans.specs.Rows.{rows_of, Ordered};
+ghost use Rattle.plans.specs.Rows.{rows_in, Ordered};
 ghost use Rattle.plans.specs.Rooms.{level_size, rules_of, Measured};
 
-use crate::fronts::count_fronts;
+use crate::rows::Rows;
 use formats::LevelSize;
 use levels::Formats;
 use slots::{LevelRecord, SlotSizes, TensorRecord};
@@ -36,39 +36,37 @@ fn level_record<S: Formats>(
     Some(LevelRecord { format, size })
 }
 
+// What stands in a record where the tensor has no level.
+fn no_level() -> LevelRecord {
+    let size = LevelSize {
+        extent: 0,
+        fibers: 0,
+        entries: 0,
+    };
+    LevelRecord { format: 0, size }
+}
+
 // The levels of the tensor, or none exactly if they find no room.
-pub fn measure<S: Formats>(
+pub(crate) fn measure<S: Formats>(
     room: SlotSizes,
     extents: &[u32],
     formats: &[u8],
-    coordinates: &[u32],
-    count: usize,
+    rows: &Rows<'_>,
 ) -> Option<TensorRecord>
     requires shallow { length extents.now ≤ 3 }
     requires paired { length formats.now ≡ length extents.now }
+    requires rank { rows.now.rank ≡ length extents.now }
     requires narrow { (i : ℕ) → i < length extents.now → slice_index extents.now i ≤ 4096 }
-    requires whole { length coordinates.now ≡ length extents.now * count }
-    requires ordered { Ordered extents.now (rows_of (length extents.now) count coordinates.now) }
-    ensures few { OnSome result (count ≤ 4096) }
-    ensures sized { Measured room.level_words room.positions (rules_of S.wants S.births) (level_sizes (rules_of S.wants S.births) (rows_of (length extents.now) count coordinates.now) 0 1 extents.now formats.now) result }
+    requires ordered { Ordered extents.now (rows_in rows.now) }
+    ensures few { OnSome result (rows.now.count ≤ 4096) }
+    ensures sized { Measured room.level_words room.positions (rules_of S.wants S.births) (level_sizes (rules_of S.wants S.births) (rows_in rows.now) 0 1 extents.now formats.now) result }
 {
-    let rank = extents.len();
-    let unused = LevelRecord {
-        format: 0,
-        size: LevelSize {
-            extent: 0,
-            fibers: 0,
-            entries: 0,
-        },
-    };
-    let mut levels = [unused; 3];
+    let mut levels = [no_level(); 3];
     let mut fibers = 1;
     let mut words = 0;
-    for i in 0..rank {
-        let entries = count_fronts(coordinates, rank, count, i + 1);
-        let Some(level) = level_record::<S>(formats[i], extents[i], fibers, entries) else {
-            return None;
-        };
+    for (i, extent) in extents.iter().enumerate() {
+        let entries = rows.count_fronts(i + 1);
+        let level = level_record::<S>(formats[i], *extent, fibers, entries)?;
         let need = S::need(level.format, level.size);
         if need > room.level_words - words {
             return None;
@@ -82,7 +80,7 @@ pub fn measure<S: Formats>(
         return None;
     }
     Some(TensorRecord {
-        rank,
+        rank: rows.rank,
         levels,
         positions,
     })

@@ -11,7 +11,7 @@ use Rattle.rack_state.specs.Does.{Does}
 use Rattle.rack.specs.Courses.{Events, Course, none, call}
 use Rattle.rack.specs.Events.{call_of, answer_of, events}
 use Rattle.rack.specs.declared.events.Call.{Call}
-use Rattle.rack.specs.declared.events.Answer.{Answer}
+use Rattle.rack.specs.Events.{Answer}
 
 module _ {X Y Z : Type 0} (f : X → Y → Z) where
   zipped_more : (xs : List X) (ys : List Y) (x : X) (y : Y) → length xs ≡ length ys → zipped f (xs ++ x ∷ []) (ys ++ y ∷ []) ≡ zipped f xs ys ++ f x y ∷ []

@@ -23,13 +23,15 @@ pub enum Call<'c, P> {
     Drop,
 }
 
-// STORE answers the value positions used, COMPILE the number of commands, STEP how many remain, READ a result or none, DROP the commands carried out.
+// What a call did: STORE answers the value positions used, COMPILE the number of commands, STEP how many remain, READ a result or none, DROP the commands carried out.
 #[derive(Clone, Copy)]
-pub enum Answer<V> {
+pub enum Done<V> {
     Stored(usize),
     Compiled(usize),
     Stepped(usize),
     Listed(Option<Entry<V>>),
     Dropped(usize),
-    Refused(Fault),
 }
+
+// Or why it is refused.
+pub type Answer<V> = Result<Done<V>, Fault>;

@@ -5,7 +5,7 @@ mod events;
 mod rack;
 mod runs;
 
-pub use events::{Answer, Call};
+pub use events::{Answer, Call, Done};
 pub use rack::{InUse, Rack};
 pub use rack_state::{Areas, Entry, Fault, RackSizes};
 pub use runs::{compare, run};

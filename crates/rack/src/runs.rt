@@ -22,14 +22,9 @@ pub fn run<V: Semiring, S: Formats>(
 ) -> Result<Rack<V, S>, Areas<V::Plain>>
     ensures { Ran V.algebra V.reads (rules_of S.wants S.births) S.meaning sizes areas calls.now answers.old result answers.new }
 {
-    match Rack::new(sizes, areas) {
-        Ok(rack) => {
-            let mut rack = rack;
-            rack.perform(calls, answers);
-            Ok(rack)
-        }
-        Err(back) => Err(back),
-    }
+    let mut rack = Rack::new(sizes, areas)?;
+    rack.perform(calls, answers);
+    Ok(rack)
 }
 
 // Two racks of one kind, each of its own sizes and formats, with its own calls.

@@ -24,25 +24,13 @@ fn extents_of(tensor: TensorRecord) -> Extents
 fn seen_in(slot: Option<TensorRecord>) -> Option<Extents>
     ensures { option_map shown result ≡ option_map record_extents slot }
 {
-    match slot {
-        Some(tensor) => Some(extents_of(tensor)),
-        None => None,
-    }
+    slot.map(extents_of)
 }
 
 pub(crate) fn seen(slots: &slots::Slots) -> lines::Slots
     ensures { (n : ℕ) → slots_of result n ≡ option_map record_extents (slice_index_or (slot_list slots.now) n None) }
 {
     lines::Slots {
-        tensors: [
-            seen_in(slots.a),
-            seen_in(slots.b),
-            seen_in(slots.c),
-            seen_in(slots.d),
-            seen_in(slots.e),
-            seen_in(slots.f),
-            seen_in(slots.g),
-            seen_in(slots.h),
-        ],
+        tensors: slots.records.map(seen_in),
     }
 }

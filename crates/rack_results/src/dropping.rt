@@ -14,13 +14,13 @@ use semiring::Semiring;
 // Removes the graph and its result, and answers how many of its commands were carried out. All stream words and values are free again.
 pub fn drop_graph<V: Semiring, S: Formats>(rack: &mut RackState<V, S>) -> Result<usize, Fault>
     ensures does { Does V.algebra V.reads (rules_of S.wants S.births) S.meaning DROP (view rack.old) (answered dropped result) (view rack.new) }
-    ensures freed { OnOk result (Empty rack.new.tapes × (rack.new.count ≡ 0)) }
+    ensures freed { OnOk result (Empty rack.new.streams.tapes × (rack.new.results.count ≡ 0)) }
 {
     let Some(loaded) = rack.loaded else {
         return Err(Fault::NoGraph);
     };
     rack.loaded = None;
-    rack.tapes.clear();
-    rack.count = 0;
+    rack.streams.tapes.clear();
+    rack.results.count = 0;
     Ok(loaded.done)
 }

@@ -23,12 +23,11 @@ pub fn read<V: Semiring, S: Formats>(
     if loaded.done != rack.graph.commands {
         return Err(Fault::NotDrained);
     }
-    match nth_nonzero::<V>(&rack.keys, &rack.sums, rack.count, n) {
-        Some(found) => Ok(Some(Entry {
-            key: found.0,
-            rank: loaded.left,
-            value: found.1,
-        })),
-        None => Ok(None),
-    }
+    let table = &rack.results;
+    let found = nth_nonzero::<V>(&table.keys, &table.sums, table.count, n);
+    Ok(found.map(|(key, value)| Entry {
+        key,
+        rank: loaded.left,
+        value,
+    }))
 }

@@ -8,7 +8,7 @@ ghost use Rattle.rack_state.specs.Answered.{answered};
 ghost use Rattle.rack_state.specs.Does.{Does};
 
 use levels::Formats;
-use rack_state::{Fault, RackState, is_busy};
+use rack_state::{Fault, RackState};
 use semiring::Semiring;
 
 // Stores a tensor in a slot and answers the value positions that it uses. The coordinates stand entry after entry.
@@ -23,10 +23,10 @@ pub fn store<V: Semiring, S: Formats>(
 ) -> Result<usize, Fault>
     ensures { Does V.algebra V.reads (rules_of S.wants S.births) S.meaning (STORE (request slot rank extents.now formats.now coordinates.now (map V.reads entries.now))) (view rack.old) (answered stored result) (view rack.new) }
 {
-    if is_busy(rack.loaded, rack.graph.commands) {
+    if rack.is_busy() {
         return Err(Fault::Busy);
     }
-    match tensors::store::<V, S>(
+    let used = tensors::store::<V, S>(
         &mut rack.tensors,
         slot,
         rank,
@@ -34,8 +34,6 @@ pub fn store<V: Semiring, S: Formats>(
         formats,
         coordinates,
         entries,
-    ) {
-        Ok(used) => Ok(used),
-        Err(fault) => Err(Fault::Store(fault)),
-    }
+    )?;
+    Ok(used)
 }

@@ -1,7 +1,6 @@
 -- When a rack is made, what it is then, and what becomes of its areas. Assumes nothing.
 use Rattle.std.specs.Prelude.{◌≡◌, true, false, replicate, None, Ok, Err, vec_items, Result}
 use Rattle.model.specs.Stores.{wrong_sizes}
-use Rattle.semiring.specs.declared.Semiring.{Ghosts}
 use Rattle.slots.specs.Areas.{slot_state}
 use Rattle.streams.specs.Records.{Empty}
 use Rattle.rack_state.specs.declared.areas.Areas.{Areas}
@@ -22,7 +21,7 @@ pub record Fresh {P : Type 0} (z : RackSizes) (a : Areas P) (s : Snapshot P) : T
   pub count : s.count ≡ 0
 
 -- Refused exactly if a size is out of range or an area too short: then the areas are handed back.
-abbrev pub Made : {V S P : Type 0} {G : Ghosts V P} → RackSizes → Areas P → Result (RackState V S P G) (Areas P) → Type 0
+abbrev pub Made : {V S P : Type 0} → RackSizes → Areas P → Result (RackState V S P) (Areas P) → Type 0
 Made z a (Ok r) = (wrong_sizes (sizes_given z) (lengths a) ≡ false) × Fresh z a (view r)
 Made z a (Err back) = (wrong_sizes (sizes_given z) (lengths a) ≡ true) × (back ≡ a)
 

@@ -1,7 +1,6 @@
 -- All that a rack is at one time: its sizes, its slots, its graph, and what every area holds. Assumes nothing.
 use Rattle.std.specs.Prelude.{ℕ, List, vec_items, vec_len, Option}
 use Rattle.model.specs.Stores as model
-use Rattle.semiring.specs.declared.Semiring.{Ghosts}
 use Rattle.slots.specs.Areas.{SlotState, state_of}
 use Rattle.streams.specs.declared.record.Tapes.{Tapes}
 use Rattle.results.specs.declared.key.ResultKey.{ResultKey}
@@ -24,27 +23,27 @@ pub record Snapshot (P : Type 0) : Type 0 where
   pub sums : List P
   pub count : ℕ
 
-abbrev pub view : {V S P : Type 0} {G : Ghosts V P} → RackState V S P G → Snapshot P
+abbrev pub view : {V S P : Type 0} → RackState V S P → Snapshot P
 view r =
     record {
       sizes =
           record {
             positions = r.tensors.room.positions;
             level_words = r.tensors.room.level_words;
-            stream_words = r.rooms.stream_words;
-            stream_values = r.rooms.stream_values;
-            places = r.rooms.places;
+            stream_words = r.streams.word_room;
+            stream_values = r.streams.value_room;
+            places = r.results.places;
           };
       slots = state_of r.tensors;
       graph = r.graph.bytes;
       commands = r.graph.commands;
       loaded = r.loaded;
-      tapes = r.tapes;
-      words = vec_items r.stream_words;
-      values = vec_items r.stream_values;
-      keys = vec_items r.keys;
-      sums = vec_items r.sums;
-      count = r.count;
+      tapes = r.streams.tapes;
+      words = vec_items r.streams.words;
+      values = vec_items r.streams.values;
+      keys = vec_items r.results.keys;
+      sums = vec_items r.results.sums;
+      count = r.results.count;
     }
 
 -- the sizes that were given, and how long the areas are

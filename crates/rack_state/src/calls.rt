@@ -2,6 +2,7 @@
 ghost use Rattle.std.specs.Prelude.{◌≡◌};
 ghost use Rattle.model.specs.Calls.{returned as number_and_place};
 ghost use Rattle.rack_state.specs.Faults.{fault_of};
+ghost use Rattle.rack_state.specs.declared.calls.Fault.TheVariants.{Store, Line};
 
 use lines::LineFault;
 use plans::StoreFault;
@@ -32,6 +33,22 @@ pub struct Entry<V> {
     pub key: ResultKey,
     pub rank: usize,
     pub value: V,
+}
+
+impl From<StoreFault> for Fault {
+    ghost from_gives = { λ f e. e ≡ Store f };
+
+    fn from(fault: StoreFault) -> Fault {
+        Fault::Store(fault)
+    }
+}
+
+impl From<LineFault> for Fault {
+    ghost from_gives = { λ f e. e ≡ Line f };
+
+    fn from(fault: LineFault) -> Fault {
+        Fault::Line(fault)
+    }
 }
 
 impl Fault {

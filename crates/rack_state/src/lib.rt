@@ -7,7 +7,6 @@ mod calls;
 mod making;
 mod state;
 
-pub use areas::{Areas, RackSizes, Rooms};
-pub use busy::is_busy;
+pub use areas::{Areas, RackSizes, ResultAreas, StreamAreas};
 pub use calls::{Entry, Fault};
 pub use state::{Loaded, RackState};

@@ -7,7 +7,7 @@ ghost use Rattle.rack_state.specs.Snapshots.{view, sizes_given, lengths};
 ghost use Rattle.rack_state.specs.Mirrors.{Mirrors};
 ghost use Rattle.rack_state.specs.Making.{Made, Freed};
 
-use crate::areas::{Areas, RackSizes, Rooms};
+use crate::areas::{Areas, RackSizes, ResultAreas, StreamAreas};
 use crate::state::RackState;
 use graphs::Graph;
 use levels::Formats;
@@ -59,19 +59,21 @@ impl<V: Semiring, S: Formats> RackState<V, S> {
                 values: areas.slot_values,
                 room,
             },
-            rooms: Rooms {
-                stream_words: sizes.stream_words,
-                stream_values: sizes.stream_values,
-                places: sizes.places,
-            },
             graph: Graph::new(),
             loaded: None,
-            tapes: Tapes::new(),
-            stream_words: areas.stream_words,
-            stream_values: areas.stream_values,
-            keys: areas.keys,
-            sums: areas.key_values,
-            count: 0,
+            streams: StreamAreas {
+                tapes: Tapes::new(),
+                words: areas.stream_words,
+                values: areas.stream_values,
+                word_room: sizes.stream_words,
+                value_room: sizes.stream_values,
+            },
+            results: ResultAreas {
+                keys: areas.keys,
+                sums: areas.key_values,
+                count: 0,
+                places: sizes.places,
+            },
         })
     }
 
@@ -83,10 +85,10 @@ impl<V: Semiring, S: Formats> RackState<V, S> {
         Areas {
             slot_values,
             level_words,
-            stream_words: self.stream_words,
-            stream_values: self.stream_values,
-            keys: self.keys,
-            key_values: self.sums,
+            stream_words: self.streams.words,
+            stream_values: self.streams.values,
+            keys: self.results.keys,
+            key_values: self.results.sums,
         }
     }
 }

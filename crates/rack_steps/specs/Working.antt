@@ -1,5 +1,5 @@
 -- The areas that commands work in, cut to the room that there is in them, and what carrying out a command leaves of them. Assumes nothing.
-use Rattle.std.specs.Prelude.{◌≡◌, ℕ, min, Bool, false, List, length, take, drop}
+use Rattle.std.specs.Prelude.{◌≡◌, ℕ, min, Bool, false, List, length, take, drop, vec_items}
 use Rattle.model.specs.Semirings.{Algebra}
 use Rattle.model.specs.Fibers.{Level}
 use Rattle.model.specs.Formats.{LevelSize}
@@ -12,6 +12,8 @@ use Rattle.slots.specs.Areas.{SlotState}
 use Rattle.results.specs.declared.key.ResultKey.{ResultKey}
 use Rattle.streams.specs.declared.record.Tapes.{Tapes}
 use Rattle.streams.specs.Held.{Framed, ValuesFramed}
+use Rattle.rack_state.specs.declared.areas.ResultAreas.{ResultAreas}
+use Rattle.rack_state.specs.declared.areas.StreamAreas.{StreamAreas}
 use Rattle.rack_state.specs.Snapshots.{Snapshot}
 use Rattle.execution.specs.Carried.{Ready, Outcome, RowFramed}
 
@@ -26,6 +28,10 @@ pub record Working (P : Type 0) : Type 0 where
 
 abbrev pub working : {P : Type 0} → Tapes → List ℕ → List P → List ResultKey → List P → ℕ → Working P
 working tapes words values keys sums count = record { tapes = tapes; words = words; values = values; keys = keys; sums = sums; count = count }
+
+-- what the areas of a rack hold
+abbrev pub working_in : {P : Type 0} → StreamAreas P → ResultAreas P → Working P
+working_in a r = working a.tapes (vec_items a.words) (vec_items a.values) (vec_items r.keys) (vec_items r.sums) r.count
 
 abbrev pub working_of : {P : Type 0} → Snapshot P → Working P
 working_of s = working s.tapes s.words s.values s.keys s.sums s.count

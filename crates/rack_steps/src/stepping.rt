@@ -24,17 +24,13 @@ pub fn step<V: Semiring, S: Formats>(rack: &mut RackState<V, S>) -> Result<usize
     let Some(placed) = command_at(&rack.graph.bytes, loaded.at) else {
         return Err(Fault::Full(loaded.done));
     };
-    if !carry_within::<V, S>(
+    let carried = carry_within::<V, S>(
         placed.command,
         &rack.tensors,
-        rack.rooms,
-        &mut rack.tapes,
-        &mut rack.stream_words,
-        &mut rack.stream_values,
-        &mut rack.keys,
-        &mut rack.sums,
-        &mut rack.count,
-    ) {
+        &mut rack.streams,
+        &mut rack.results,
+    );
+    if carried.is_err() {
         return Err(Fault::Full(loaded.done));
     }
     let done = loaded.done + 1;

@@ -1,50 +1,43 @@
 // A command carried out in the front parts of the areas, exactly as long as there is room.
-ghost use Rattle.std.specs.Prelude.{◌≤◌, length};
+ghost use Rattle.std.specs.Prelude.{◌≡◌, is_ok};
 ghost use Rattle.commands.specs.Held.{meant};
 ghost use Rattle.plans.specs.Rooms.{rules_of};
 ghost use Rattle.slots.specs.Areas.{state_of};
-ghost use Rattle.rack_steps.specs.Working.{working, CarriedWithin};
+ghost use Rattle.rack_steps.specs.Working.{working_in, CarriedWithin};
 
 use commands::Command;
 use execution::carry_out;
 use levels::Formats;
-use rack_state::Rooms;
+use rack_state::{ResultAreas, StreamAreas};
 use results::ResultKey;
 use semiring::Semiring;
 use slots::SlotAreas;
-use streams::Tapes;
+use streams::NoRoom;
 
-// Whether the command found room; past the room nothing changes.
+// Carried out, or refused for want of room; past the room nothing changes.
 pub(crate) fn carry_within<V: Semiring, S: Formats>(
     command: Command,
     tensors: &SlotAreas<V::Plain>,
-    rooms: Rooms,
-    tapes: &mut Tapes,
-    words: &mut [u32],
-    values: &mut [V::Plain],
-    keys: &mut [ResultKey],
-    sums: &mut [V::Plain],
-    count: &mut usize,
-) -> bool
-    requires words_fit { rooms.stream_words ≤ length words.old }
-    requires values_fit { rooms.stream_values ≤ length values.old }
-    requires keys_fit { rooms.places ≤ length keys.old }
-    requires sums_fit { rooms.places ≤ length sums.old }
-    ensures { CarriedWithin V.algebra V.reads (rules_of S.wants S.births) S.meaning rooms.stream_words rooms.stream_values rooms.places tensors.now.room.level_words tensors.now.room.positions (state_of tensors.now) (meant command) (working tapes.old words.old values.old keys.old sums.old count.old) result (working tapes.new words.new values.new keys.new sums.new count.new) }
+    streams: &mut StreamAreas<V::Plain>,
+    results: &mut ResultAreas<V::Plain>,
+) -> Result<(), NoRoom>
+    ensures carried { CarriedWithin V.algebra V.reads (rules_of S.wants S.births) S.meaning streams.old.word_room streams.old.value_room results.old.places tensors.now.room.level_words tensors.now.room.positions (state_of tensors.now) (meant command) (working_in streams.old results.old) (is_ok result) (working_in streams.new results.new) }
+    ensures rooms { (streams.new.word_room ≡ streams.old.word_room) × (streams.new.value_room ≡ streams.old.value_room) × (results.new.places ≡ results.old.places) }
 {
-    let Rooms {
-        stream_words,
-        stream_values,
-        places,
-    } = rooms;
+    let (word_room, value_room) = (streams.word_room, streams.value_room);
+    let places = results.places;
+    let words: &mut [u32] = &mut streams.words;
+    let values: &mut [V::Plain] = &mut streams.values;
+    let keys: &mut [ResultKey] = &mut results.keys;
+    let sums: &mut [V::Plain] = &mut results.sums;
     carry_out::<V, S>(
         command,
         tensors,
-        tapes,
-        &mut words[0..stream_words],
-        &mut values[0..stream_values],
+        &mut streams.tapes,
+        &mut words[0..word_room],
+        &mut values[0..value_room],
         &mut keys[0..places],
         &mut sums[0..places],
-        count,
+        &mut results.count,
     )
 }

@@ -1,3 +1,5 @@
+pub mod Having
+pub mod Ordered
 pub mod Walks
 pub mod Fails
 pub mod Names

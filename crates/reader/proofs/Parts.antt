@@ -1,9 +1,10 @@
 -- Sums, products and factors. Assumes nothing.
-use Rattle.std.proofs.Common.{◌≡◌, ℕ, suc, ◌+◌, ◌-◌, ◌/◌, ◌<◌, ◌≤◌, true, false, List, [], ◌∷◌, ◌++◌, length, get_or, sym, refl, ap, ◌∙◌, subst, arith}
-use Rattle.std.proofs.lemmas.List.{append-nil, append_assoc}
-use Rattle.reader.specs.declared.nodes.Node.{Node}
-use Rattle.reader.specs.declared.nodes.Node.TheVariants.{Access, Group, Times, Plus}
-use Rattle.reader.specs.declared.nodes.Arena.{Arena}
+use Rattle.std.proofs.Common.{◌≡◌, ℕ, suc, ◌+◌, ◌-◌, ◌/◌, ◌<◌, ◌≤◌, true, false, List, [], ◌∷◌, ◌++◌, length, get_or, sym, refl, ap, ◌∙◌, subst, arith, length-append}
+use Rattle.std.proofs.lemmas.List.{append-nil, append_assoc, get_or_append_left}
+use Rattle.std.proofs.Math.Seq.{get_or-append_seam}
+use Rattle.reader.specs.declared.node.Node.{Node}
+use Rattle.reader.specs.declared.node.Node.TheVariants.{Access, Group, Times, Plus}
+use Rattle.reader.specs.declared.arena.Arena.{Arena}
 use Rattle.reader.specs.declared.parsing.Part.{Part}
 use Rattle.model.specs.Grammar.{is_slot, Tree, access, group, times, plus, args, text, height, Grammatical}
 use Rattle.reader.specs.Walk.{bracket, want, have, step}
@@ -13,6 +14,17 @@ use Rattle.reader.specs.Parts.{Grown, Read, Got}
 use Rattle.reader.proofs.Walks.{then, times_goes, plus_goes, slot_goes, no_want, no_close, by_tree}
 use Rattle.reader.proofs.Fails.{spans_none, spans_byte, spans_part, spans_length, fails_here, fails_in}
 use Rattle.reader.proofs.Names.{args_long, args_count}
+
+-- what a push leaves
+module _ {a b : Arena} {x : Node} {r : ℕ} (p : Pushed a x b r) where
+  pub pushed_long : length b.nodes.items ≡ length a.nodes.items + 1
+  pushed_long = ap length p.nodes ∙ length-append a.nodes.items (x ∷ [])
+
+  pub pushed_here : node b.nodes.items r ≡ x
+  pushed_here = ap (λ l. node l r) p.nodes ∙ ap (node (a.nodes.items ++ x ∷ [])) p.place ∙ get_or-append_seam a.nodes.items x [] (Access 0 0 (record { place = 0; count = 0 }))
+
+  pub pushed_same : (i : ℕ) → i < length a.nodes.items → node b.nodes.items i ≡ node a.nodes.items i
+  pushed_same i h = ap (λ l. node l i) p.nodes ∙ get_or_append_left a.nodes.items (x ∷ []) (Access 0 0 (record { place = 0; count = 0 })) i h
 
 -- a tree stays where the nodes up to it stay
 pub holds_on : (t : Tree) (at : ℕ) (ns ms : List Node) (n i : ℕ) → ((j : ℕ) → j < n → node ms j ≡ node ns j) → i < n → Holds t at ns i → Holds t at ms i
@@ -70,17 +82,17 @@ module _ {k j m sep : ℕ} {mk : ℕ → ℕ → ℕ → Node} (o : Operator k j
             (spans_part s at (left.end + 1) right.end (text l.tree ++ (sep ∷ [])) (text r.tree) behind r.spans);
         forth = omega (arith, l.forth, r.forth);
         stops = r.stops;
-        holds = o.holds l.tree r.tree at c.nodes root left.root right.root (omega (arith, l.below, g.grown.more, p.place)) (omega (arith, r.below, p.place)) (p.here ∙ ap (λ x. mk x left.root right.root) end)
-            (holds_on l.tree at a.nodes c.nodes a.len left.root (λ i h. p.same i (omega (arith, g.grown.more)) ∙ g.grown.same i h) l.below l.holds)
-            (subst (λ x. Holds r.tree x c.nodes right.root) place (holds_on r.tree (left.end + 1) b.nodes c.nodes b.len right.root p.same r.below r.holds));
-        below = omega (arith, p.place, p.len);
+        holds = o.holds l.tree r.tree at c.nodes.items root left.root right.root (omega (arith, l.below, g.grown.more, p.place)) (omega (arith, r.below, p.place)) (pushed_here p ∙ ap (λ x. mk x left.root right.root) end)
+            (holds_on l.tree at a.nodes.items c.nodes.items (length a.nodes.items) left.root (λ i h. pushed_same p i (omega (arith, g.grown.more)) ∙ g.grown.same i h) l.below l.holds)
+            (subst (λ x. Holds r.tree x c.nodes.items right.root) place (holds_on r.tree (left.end + 1) b.nodes.items c.nodes.items (length b.nodes.items) right.root (pushed_same p) r.below r.holds));
+        below = omega (arith, p.place, pushed_long p);
       }
 
   pub join_grown : (z b c : Arena) (e : ℕ) (right : Part) (root : ℕ) → Grown z e a left.end → Got j m s (left.end + 1) a b right → Pushed b (mk left.end left.root right.root) c root → Grown z e c right.end
   join_grown z b c e right root h g p = record {
-    few = omega (arith, h.few, g.grown.few, p.len);
-    more = omega (arith, h.more, g.grown.more, p.len);
-    same = λ i lt. p.same i (omega (arith, h.more, g.grown.more)) ∙ g.grown.same i (omega (arith, h.more)) ∙ h.same i lt;
+    few = omega (arith, h.few, g.grown.few, pushed_long p);
+    more = omega (arith, h.more, g.grown.more, pushed_long p);
+    same = λ i lt. pushed_same p i (omega (arith, h.more, g.grown.more)) ∙ g.grown.same i (omega (arith, h.more)) ∙ h.same i lt;
   }
 
   pub join_failed : (p : ℕ) → Failed (APart j) want s (left.end + 1) p → Failed (APart k) want s at p
@@ -123,7 +135,7 @@ module _ (s : List ℕ) (at : ℕ) (lt : at < length s) (slot : is_slot (get_or 
         let same : e - at - 2 ≡ length (args r.vars) - 1 = omega arith in
         ap (λ x. x / 2) same ∙ args_count r.vars
 
-    pub an_access : (a b : Arena) (root : ℕ) → Pushed a (Access at (get_or s at 0 - 65) ((e - at - 2) / 2)) b root → Got 0 0 s at a b (record { end = e; root = root })
+    pub an_access : (a b : Arena) (root : ℕ) → Pushed a (Access at (get_or s at 0 - 65) (record { place = at + 2; count = (e - at - 2) / 2 })) b root → Got 0 0 s at a b (record { end = e; root = root })
     an_access a b root p = record {
       read = record {
         tree = access (get_or s at 0) r.vars;
@@ -132,10 +144,10 @@ module _ (s : List ℕ) (at : ℕ) (lt : at < length s) (slot : is_slot (get_or 
         spans = spans_part s at (at + 1) e (get_or s at 0 ∷ []) (args r.vars) lettered r.spans;
         forth = omega (arith, r.spans.forth);
         stops = record { times = λ n. absurd (omega arith); plus = λ n. absurd (omega arith) };
-        holds = p.here ∙ ap (Access at (get_or s at 0 - 65)) count;
-        below = omega (arith, p.place, p.len);
+        holds = pushed_here p ∙ ap (λ n. Access at (get_or s at 0 - 65) (record { place = at + 2; count = n })) count;
+        below = omega (arith, p.place, pushed_long p);
       };
-      grown = record { few = omega (arith, p.len, r.spans.forth); more = omega (arith, p.len); same = p.same };
+      grown = record { few = omega (arith, pushed_long p, r.spans.forth); more = omega (arith, pushed_long p); same = pushed_same p };
     }
 
 -- a bracket opens at `at`
@@ -170,12 +182,12 @@ module _ (s : List ℕ) (at : ℕ) (lt : at < length s) (is : get_or s at 0 ≡ 
             spans = spans_byte s at inner.end 41 (40 ∷ text r.tree) filled on closes;
             forth = omega (arith, r.forth);
             stops = record { times = λ n. absurd (omega arith); plus = λ n. absurd (omega arith) };
-            holds = (inner.root, omega (arith, r.below, p.place), p.here, holds_on r.tree (at + 1) b.nodes c.nodes b.len inner.root p.same r.below r.holds);
-            below = omega (arith, p.place, p.len);
+            holds = (inner.root, omega (arith, r.below, p.place), pushed_here p, holds_on r.tree (at + 1) b.nodes.items c.nodes.items (length b.nodes.items) inner.root (pushed_same p) r.below r.holds);
+            below = omega (arith, p.place, pushed_long p);
           };
           grown = record {
-            few = omega (arith, g.grown.few, p.len);
-            more = omega (arith, g.grown.more, p.len);
-            same = λ i h. p.same i (omega (arith, g.grown.more)) ∙ g.grown.same i h;
+            few = omega (arith, g.grown.few, pushed_long p);
+            more = omega (arith, g.grown.more, pushed_long p);
+            same = λ i h. pushed_same p i (omega (arith, g.grown.more)) ∙ g.grown.same i h;
           };
         }

@@ -1,7 +1,7 @@
 -- From the parts to the line. Assumes nothing.
 use Rattle.std.proofs.Common.{◌≡◌, ℕ, ◌+◌, ◌<◌, ◌≤◌, List, [], ◌∷◌, ◌++◌, length, get_or, sym, refl, ap, ◌∙◌, subst, inr, arith, length-append}
 use Rattle.std.proofs.lemmas.List.{append-nil, append_assoc, take_all}
-use Rattle.reader.specs.declared.nodes.Arena.{Arena}
+use Rattle.reader.specs.declared.arena.Arena.{Arena}
 use Rattle.reader.specs.declared.parsing.Part.{Part}
 use Rattle.model.specs.Grammar.{access, names, args, text, IsLine}
 use Rattle.reader.specs.Walk.{start, bracket, equals, want, have, tail, run, Open}
@@ -112,7 +112,7 @@ module _ (s : List ℕ) (short : length s ≤ 256) where
             ))
             (λ u. then start (have 0) f (59 ∷ []) sums) x)
 
-        pub a_line : a.len ≡ 0 → Order s (p.end + 1) → Parses s (record { arena = b; root = p.root; body = e; order = p.end + 1 })
+        pub a_line : a.nodes.items ≡ [] → Order s (p.end + 1) → Parses s (record { arena = b; root = p.root; body = e; order = p.end + 1 })
         a_line none y =
             let r = g.read in
             let f : List ℕ = ((82 ∷ args h.vars) ++ (61 ∷ [])) ++ text r.tree in
@@ -128,7 +128,7 @@ module _ (s : List ℕ) (short : length s ≤ 256) where
                 body = from;
                 order = omega (arith, from, spans_length s e p.end (text r.tree) r.spans);
                 below = r.below;
-                room = omega (arith, g.grown.few, r.spans.within);
+                room = omega (arith, g.grown.few, r.spans.within, ap length none);
                 holds = r.holds;
               },
             )

@@ -6,8 +6,11 @@ ghost use Rattle.reader.specs.Reader.{Failed, APart};
 ghost use Rattle.reader.specs.Parts.{Got};
 ghost use Rattle.reader.specs.Whole.{Parses};
 
-use crate::nodes::{Arena, Node};
-use crate::scan::{args, head, order, sees, sees_slot};
+use crate::arena::Arena;
+use crate::faults::GrammarFault;
+use crate::node::Node;
+use crate::scan::Text;
+use crate::vars::VarList;
 
 // A part that was read: where it ends, and its node.
 #[derive(Clone, Copy)]
@@ -16,16 +19,16 @@ struct Part {
     root: usize,
 }
 
+// A sum reads as a product does, but for its sign, its parts and its node: a function for each rule of the grammar says so more plainly than one that asks which it is.
 #[cycle(factor_prod_sum)]
-fn sum(s: &[u8], at: usize, arena: &mut Arena) -> Result<Part, usize>
-    requires within { at ≤ length s.now }
-    requires short { length s.now ≤ 256 }
-    requires room { arena.old.len ≤ at }
-    ensures { MatchResult result (Got 2 2 s.now at arena.old arena.new) (Failed (APart 2) want s.now at) }
+fn sum(text: Text<'_>, at: usize, arena: &mut Arena) -> Result<Part, GrammarFault>
+    requires within { at ≤ length text.bytes.now }
+    requires room { length arena.old.nodes.items ≤ at }
+    ensures { MatchResult result (Got 2 2 text.entry.bytes.now at arena.old arena.new) (λ f. Failed (APart 2) want text.entry.bytes.now at f.place) }
 {
-    let mut left = prod(s, at, arena)?;
-    'terms: while sees(s, left.end, b'+') {
-        let right = prod(s, left.end + 1, arena)?;
+    let mut left = prod(text, at, arena)?;
+    'terms: while text.sees(left.end, b'+') {
+        let right = prod(text, left.end + 1, arena)?;
         let root = arena.push(Node::Plus {
             place: left.end,
             left: left.root,
@@ -40,15 +43,14 @@ fn sum(s: &[u8], at: usize, arena: &mut Arena) -> Result<Part, usize>
 }
 
 #[cycle(factor_prod_sum)]
-fn prod(s: &[u8], at: usize, arena: &mut Arena) -> Result<Part, usize>
-    requires within { at ≤ length s.now }
-    requires short { length s.now ≤ 256 }
-    requires room { arena.old.len ≤ at }
-    ensures { MatchResult result (Got 1 1 s.now at arena.old arena.new) (Failed (APart 1) want s.now at) }
+fn prod(text: Text<'_>, at: usize, arena: &mut Arena) -> Result<Part, GrammarFault>
+    requires within { at ≤ length text.bytes.now }
+    requires room { length arena.old.nodes.items ≤ at }
+    ensures { MatchResult result (Got 1 1 text.entry.bytes.now at arena.old arena.new) (λ f. Failed (APart 1) want text.entry.bytes.now at f.place) }
 {
-    let mut left = factor(s, at, arena)?;
-    'factors: while sees(s, left.end, b'*') {
-        let right = factor(s, left.end + 1, arena)?;
+    let mut left = factor(text, at, arena)?;
+    'factors: while text.sees(left.end, b'*') {
+        let right = factor(text, left.end + 1, arena)?;
         let root = arena.push(Node::Times {
             left: left.root,
             right: right.root,
@@ -62,29 +64,27 @@ fn prod(s: &[u8], at: usize, arena: &mut Arena) -> Result<Part, usize>
 }
 
 #[cycle(factor_prod_sum)]
-fn factor(s: &[u8], at: usize, arena: &mut Arena) -> Result<Part, usize>
-    requires within { at ≤ length s.now }
-    requires short { length s.now ≤ 256 }
-    requires room { arena.old.len ≤ at }
-    ensures { MatchResult result (Got 0 0 s.now at arena.old arena.new) (Failed (APart 0) want s.now at) }
+fn factor(text: Text<'_>, at: usize, arena: &mut Arena) -> Result<Part, GrammarFault>
+    requires within { at ≤ length text.bytes.now }
+    requires room { length arena.old.nodes.items ≤ at }
+    ensures { MatchResult result (Got 0 0 text.entry.bytes.now at arena.old arena.new) (λ f. Failed (APart 0) want text.entry.bytes.now at f.place) }
 {
-    if sees_slot(s, at) {
-        let end = args(s, at + 1)?;
+    if text.sees_slot(at) {
+        let end = text.args(at + 1)?;
         // Letter, brackets and commas apart, every other byte is a variable.
         let root = arena.push(Node::Access {
             place: at,
-            slot: (s[at] - b'A') as usize,
-            vars: (end - at - 2) / 2,
+            slot: (text.bytes[at] - b'A') as usize,
+            vars: VarList {
+                place: at + 2,
+                count: (end - at - 2) / 2,
+            },
         });
         return Ok(Part { end, root });
     }
-    if !sees(s, at, b'(') {
-        return Err(at);
-    }
-    let inner = sum(s, at + 1, arena)?;
-    if !sees(s, inner.end, b')') {
-        return Err(inner.end);
-    }
+    text.expect(at, b'(')?;
+    let inner = sum(text, at + 1, arena)?;
+    text.expect(inner.end, b')')?;
     let root = arena.push(Node::Group {
         place: at,
         inner: inner.root,
@@ -96,7 +96,7 @@ fn factor(s: &[u8], at: usize, arena: &mut Arena) -> Result<Part, usize>
 }
 
 // A line: where its right side and its loop order begin, and the tree of the right side.
-#[derive(Clone, Copy)]
+#[derive(Drop)]
 pub struct Parsed {
     pub arena: Arena,
     pub root: usize,
@@ -105,26 +105,18 @@ pub struct Parsed {
 }
 
 // The tree of a line, or the place at which it stops being one.
-pub fn parse(text: &[u8]) -> Result<Parsed, usize>
-    ensures { MatchResult result (Parses text.now) (Ungrammatical text.now) }
+pub fn parse(text: &[u8]) -> Result<Parsed, GrammarFault>
+    ensures { MatchResult result (Parses text.now) (λ f. Ungrammatical text.now f.place) }
 {
     if text.len() > 256 {
-        return Err(256);
+        return Err(GrammarFault { place: 256 });
     }
-    let body = head(text)?;
-    let mut arena = Arena {
-        nodes: [Node::Access {
-            place: 0,
-            slot: 0,
-            vars: 0,
-        }; 256],
-        len: 0,
-    };
+    let text = Text { bytes: text };
+    let body = text.head()?;
+    let mut arena = Arena::new();
     let part = sum(text, body, &mut arena)?;
-    if !sees(text, part.end, b';') {
-        return Err(part.end);
-    }
-    order(text, part.end + 1)?;
+    text.expect(part.end, b';')?;
+    text.order(part.end + 1)?;
     Ok(Parsed {
         arena,
         root: part.root,

@@ -1,6 +1,7 @@
 // The result table: ascending keys beside stored values, over lent rows.
 #![tactic(auto)]
 
+pub mod fault;
 pub mod key;
 mod listing;
 mod places;
@@ -8,6 +9,7 @@ mod rows;
 mod search;
 pub mod table;
 
+pub use fault::TableFull;
 pub use key::ResultKey;
 pub use listing::nth_nonzero;
 pub use places::key_places;

@@ -23,17 +23,11 @@ impl ResultKey {
     pub fn of(parts: &[u32]) -> Option<ResultKey>
         ensures { MatchOption result (3 < length parts.now) (λ k. (length parts.now ≤ 3) × (coordinates k ≡ filled 3 0 parts.now)) }
     {
-        let (first, second, third) = match parts {
-            [] => (0, 0, 0),
-            [first] => (*first, 0, 0),
-            [first, second] => (*first, *second, 0),
-            [first, second, third] => (*first, *second, *third),
-            _ => return None,
-        };
-        Some(ResultKey {
-            first,
-            second,
-            third,
-        })
+        let mut row = [0; 3];
+        if parts.len() > row.len() {
+            return None;
+        }
+        row[..parts.len()].copy_from_slice(parts);
+        Some(ResultKey { parts: row })
     }
 }

@@ -7,17 +7,11 @@ mod tests {
     use semiring::Count;
     use std::test::Fail;
 
-    const NO_KEY: ResultKey = ResultKey {
-        first: 0,
-        second: 0,
-        third: 0,
-    };
+    const NO_KEY: ResultKey = ResultKey { parts: [0; 3] };
 
     fn key(first: u32, second: u32) -> ResultKey {
         ResultKey {
-            first,
-            second,
-            third: 0,
+            parts: [first, second, 0],
         }
     }
 
@@ -34,11 +28,11 @@ mod tests {
         let Some(first) = nth_nonzero::<Count>(&keys, &values, n, 0) else {
             return Err(Fail::new("none"));
         };
-        assert!(rt; first.0.first == 1 && first.0.second == 3 && first.1.value == 4);
+        assert!(rt; first.0 == key(1, 3) && first.1.value == 4);
         let Some(second) = nth_nonzero::<Count>(&keys, &values, n, 1) else {
             return Err(Fail::new("none"));
         };
-        assert!(rt; second.0.first == 2 && second.0.second == 0 && second.1.value == 5);
+        assert!(rt; second.0 == key(2, 0) && second.1.value == 5);
         assert!(rt; nth_nonzero::<Count>(&keys, &values, n, 2).is_none());
         Ok(())
     }

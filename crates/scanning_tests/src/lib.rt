@@ -4,7 +4,7 @@
 #[cfg(test)]
 mod tests {
     use formats::{Compressed, Dense, LevelSize};
-    use levels::Two;
+    use levels::{StoredLevel, Two};
     use scanning::scan::scan;
     use tapes::part::Part;
 
@@ -24,16 +24,21 @@ mod tests {
             fibers: 2,
             entries: 4,
         };
+        let level = StoredLevel {
+            number: 0,
+            size,
+            words: &[],
+        };
         let refs = Part { from: 0, to: 4 };
         let before = [1, N, S0, D, 7, 7, 7, 7, 7, 7, 7, 7, 7, 7, 7, 7];
         let mut words = before;
         assert_eq!(rt;
-            scan::<Two<Dense, Compressed>>(&mut words, 5, refs, 0, size, &[]),
+            scan::<Two<Dense, Compressed>>(&mut words, 5, refs, level),
             None
         );
         assert_eq!(rt; words, before);
         assert_eq!(rt;
-            scan::<Two<Dense, Compressed>>(&mut words, 4, refs, 0, size, &[]),
+            scan::<Two<Dense, Compressed>>(&mut words, 4, refs, level),
             Some((6, 6))
         );
         assert_eq!(rt;
@@ -50,10 +55,15 @@ mod tests {
             fibers: 2,
             entries: 3,
         };
+        let level = StoredLevel {
+            number: 1,
+            size,
+            words: &[0, 1, 3, 2, 0, 3],
+        };
         let refs = Part { from: 0, to: 4 };
         let mut words = [1, 9, S0, D, 7, 7, 7, 7, 7, 7, 7, 7, 7, 7, 7, 7, 8];
         assert_eq!(rt;
-            scan::<Two<Dense, Compressed>>(&mut words, 4, refs, 1, size, &[0, 1, 3, 2, 0, 3]),
+            scan::<Two<Dense, Compressed>>(&mut words, 4, refs, level),
             Some((6, 6))
         );
         assert_eq!(rt;

@@ -33,8 +33,8 @@ pub fn multiply_rows<V: Semiring>(
     if out.len() < a.len() {
         return Err(RowFault::Room);
     }
-    for i in 0..a.len() {
-        out[i] = V::read(a[i]).mul(V::read(b[i])).plain();
+    for (i, (x, y)) in a.iter().zip(b).enumerate() {
+        out[i] = V::read(*x).mul(V::read(*y)).plain();
     }
     Ok(a.len())
 }
@@ -47,8 +47,8 @@ pub fn dot<V: Semiring>(a: &[V::Plain], b: &[V::Plain]) -> Option<V>
         return None;
     }
     let mut sum = V::zero();
-    for i in 0..a.len() {
-        sum = sum.add(V::read(a[i]).mul(V::read(b[i])));
+    for (x, y) in a.iter().zip(b) {
+        sum = sum.add(V::read(*x).mul(V::read(*y)));
     }
     Some(sum)
 }

@@ -1,5 +1,5 @@
 -- What the records of the slots say: the slots as a list by number, and of a tensor its levels' formats and sizes.
-use Rattle.std.specs.Prelude.{ℕ, List, [], ◌∷◌, map, take, Option}
+use Rattle.std.specs.Prelude.{ℕ, List, map, take, Option}
 use Rattle.model.specs.Formats.{LevelSize}
 use Rattle.formats.specs.Sizes.{size_of}
 use Rattle.slots.specs.declared.records.Slots.{Slots}
@@ -7,7 +7,7 @@ use Rattle.slots.specs.declared.records.LevelRecord.{LevelRecord}
 use Rattle.slots.specs.declared.records.TensorRecord.{TensorRecord}
 
 abbrev pub slot_list : Slots → List (Option TensorRecord)
-slot_list s = s.a ∷ s.b ∷ s.c ∷ s.d ∷ s.e ∷ s.f ∷ s.g ∷ s.h ∷ []
+slot_list s = s.records
 
 -- a level's format and size
 abbrev pub level_of : LevelRecord → ℕ × LevelSize

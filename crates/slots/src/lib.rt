@@ -3,8 +3,10 @@
 
 mod areas;
 mod making;
+mod parts;
 mod records;
 mod shelf;
 
 pub use areas::{SlotAreas, SlotSizes};
+pub use parts::SlotNumber;
 pub use records::{LevelRecord, Slots, TensorRecord};

@@ -1,5 +1,5 @@
 // The records of the slots.
-ghost use Rattle.std.specs.Prelude.{◌≤◌};
+ghost use Rattle.std.specs.Prelude.{◌≡◌, ◌≤◌, length};
 
 use formats::LevelSize;
 
@@ -10,7 +10,8 @@ pub struct LevelRecord {
     pub size: LevelSize,
 }
 
-// A tensor: its levels, the outermost first, of which the first `rank` count, and the value positions that it uses.
+// A tensor: its levels, the outermost first, of which the first `rank` count, and the value positions that it uses. An array and a rank, since
+// records are copied, and an `ArrayVec` is not.
 #[derive(Clone, Copy)]
 pub struct TensorRecord {
     pub rank: usize,
@@ -22,12 +23,6 @@ pub struct TensorRecord {
 // The eight slots, A to H; none where a slot is empty.
 #[derive(Clone, Copy)]
 pub struct Slots {
-    pub a: Option<TensorRecord>,
-    pub b: Option<TensorRecord>,
-    pub c: Option<TensorRecord>,
-    pub d: Option<TensorRecord>,
-    pub e: Option<TensorRecord>,
-    pub f: Option<TensorRecord>,
-    pub g: Option<TensorRecord>,
-    pub h: Option<TensorRecord>,
+    pub records: [Option<TensorRecord>; 8],
+    ghost eight: { length records ≡ 8 },
 }

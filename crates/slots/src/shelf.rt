@@ -1,7 +1,8 @@
 // The eight slots as a list by number: one is read, one is replaced.
-ghost use Rattle.std.specs.Prelude.{◌≡◌, replicate, Some, None, slice_index_or, slice_set};
+ghost use Rattle.std.specs.Prelude.{◌≡◌, replicate, Some, None, MatchOption, slice_index_or, slice_set};
 ghost use Rattle.slots.specs.Records.{slot_list};
 
+use crate::parts::SlotNumber;
 use crate::records::{Slots, TensorRecord};
 
 impl Slots {
@@ -9,49 +10,30 @@ impl Slots {
     pub fn new() -> Slots
         ensures { slot_list result ≡ replicate 8 None }
     {
-        Slots {
-            a: None,
-            b: None,
-            c: None,
-            d: None,
-            e: None,
-            f: None,
-            g: None,
-            h: None,
-        }
+        Slots { records: [None; 8] }
     }
 
     // The record of a slot; none past the last.
     pub fn get(&self, slot: usize) -> Option<TensorRecord>
         ensures { result ≡ slice_index_or (slot_list self.now) slot None }
     {
-        match slot {
-            0 => self.a,
-            1 => self.b,
-            2 => self.c,
-            3 => self.d,
-            4 => self.e,
-            5 => self.f,
-            6 => self.g,
-            7 => self.h,
-            _ => None,
-        }
+        self.records.get(slot).copied().flatten()
+    }
+
+    // The tensor in a slot, with the slot's number; none where the slot is empty, or past the last.
+    pub fn filled(&self, slot: usize) -> Option<(SlotNumber, TensorRecord)>
+        ensures { MatchOption result (slice_index_or (slot_list self.now) slot None ≡ None) (λ x. (x.0.number ≡ slot) × (slice_index_or (slot_list self.now) slot None ≡ Some x.1)) }
+    {
+        let number = SlotNumber::new(slot)?;
+        Some((number, self.get(slot)?))
     }
 
     // Replaces the record of this slot and no other; past the last there is none to replace.
     pub fn replace(&mut self, slot: usize, tensor: TensorRecord)
         ensures { slot_list self.new ≡ slice_set (slot_list self.old) slot (Some tensor) }
     {
-        match slot {
-            0 => self.a = Some(tensor),
-            1 => self.b = Some(tensor),
-            2 => self.c = Some(tensor),
-            3 => self.d = Some(tensor),
-            4 => self.e = Some(tensor),
-            5 => self.f = Some(tensor),
-            6 => self.g = Some(tensor),
-            7 => self.h = Some(tensor),
-            _ => {}
+        if slot < self.records.len() {
+            self.records[slot] = Some(tensor);
         }
     }
 }

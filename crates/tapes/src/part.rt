@@ -2,7 +2,7 @@
 ghost use Rattle.std.specs.Prelude.{◌≡◌, ◌+◌, [], ◌∷◌, length, MatchOption};
 ghost use Rattle.tapes.specs.Areas.{held};
 
-#[derive(Clone, Copy)]
+#[derive(Clone, Copy, Default)]
 pub struct Part {
     pub from: usize,
     pub to: usize,
@@ -13,13 +13,14 @@ impl Part {
     pub fn first(self, words: &[u32]) -> Option<(u32, Part)>
         ensures { MatchOption result (held self words.now ≡ []) (λ p. (held self words.now ≡ p.0 ∷ held p.1 words.now) × (length (held p.1 words.now) + 1 ≡ length (held self words.now))) }
     {
-        if self.from >= self.to || self.from >= words.len() {
+        if self.from >= self.to {
             return None;
         }
+        let word = *words.get(self.from)?;
         let rest = Part {
             from: self.from + 1,
-            to: self.to,
+            ..self
         };
-        Some((words[self.from], rest))
+        Some((word, rest))
     }
 }

@@ -1,9 +1,11 @@
 -- The lists of a level, picked from rows with an owner each: they are lists to build from, and have every row's coordinate.
-use Rattle.std.proofs.Common.{◌≡◌, ℕ, zero, suc, ◌+◌, ◌<◌, ◌≤◌, Bool, true, false, cond, List, [], ◌∷◌, ◌++◌, map, length, get_or, take, drop, set, sym, refl, ap, ◌∙◌, ap₂, ⊎_elim, arith}
+use Rattle.std.proofs.Common.{◌≡◌, ℕ, zero, suc, ◌+◌, ◌<◌, ◌≤◌, Bool, true, false, cond, List, [], ◌∷◌, ◌++◌, map, length, get_or, take, drop, sym, refl, ap, ◌∙◌, ap₂, ⊎_elim, arith}
 use mathlib.Core.Bool.{false≢true}
 use Rattle.std.specs.List.{AllByRecursion}
 use Rattle.std.proofs.ByRecursion.{All-get_or}
-use Rattle.std.proofs.lemmas.List.{length-map, get_or-map, get_or-take, take-take, drop_more, drop_all, take_more_set, append_assoc, append-nil}
+use Rattle.std.proofs.lemmas.List.{length-map, get_or-map, get_or-take, take-take, drop_more, drop_all, map_push, append_assoc, append-nil}
+use Rattle.formats.specs.Entries.{owners_of, coordinates_of}
+use Rattle.formats.specs.declared.entry.Entry.{Entry}
 use Rattle.model.specs.Formats.{LevelSize, Listed}
 use Rattle.model.specs.Tensors.{same}
 use Rattle.model.specs.Running.{before}
@@ -13,7 +15,7 @@ use Rattle.plans.specs.Rows.{Rising, Ordered, rows_of, nth_row, next_same}
 use Rattle.plans.proofs.Entries.{rows_at, rows_long}
 use Rattle.plans.proofs.Numbers.{fronts_more, next_order, row_long, row_within}
 use Rattle.plans.proofs.Orders.{front_apart}
-use Rattle.tensors.specs.Fillings.{picked, Owners}
+use Rattle.tensors.specs.Fillings.{picked, pair_of, Owners}
 
 tails : (d f o : ℕ) (os cs : List ℕ) (css : List (List ℕ)) → Owners d f (o ∷ os) (cs ∷ css) → Owners d f os css
 tails d f o os cs css w = record {
@@ -176,40 +178,47 @@ module _ (d : ℕ) where
   pub picks_none : (os : List ℕ) (css : List (List ℕ)) (k : ℕ) → length os ≤ k → picked d (drop k os) (drop k css) ≡ []
   picks_none os css k h = ap (λ x. picked d x (drop k css)) (drop_all k os h)
 
-  -- no more pairs than rows
-  pub picked_few : (os : List ℕ) (css : List (List ℕ)) → length (picked d os css) ≤ length os
-  picked_few [] css = omega arith
-  picked_few (o ∷ os) [] = omega arith
-  picked_few (o ∷ os) (cs ∷ css) = go (next_same (suc d) cs css) (picked_few os css)
-    where
-      go : (b : Bool) → length (picked d os css) ≤ length os → length (cond b (picked d os css) ((o, get_or cs d 0) ∷ picked d os css)) ≤ suc (length os)
-      go true ih = omega arith
-      go false ih = omega arith
-
--- the same of one part of the pairs, as a loop writes it to the front of a list
-module _ (d r n : ℕ) (cs os : List ℕ) (long : length os ≡ n) (part : ℕ × ℕ → ℕ) (xs : List ℕ) (m k : ℕ) (h : k < n)
-    (inv : map part (picked d os (rows_of r n cs)) ≡ take m xs ++ map part (picked d (drop k os) (drop k (rows_of r n cs)))) where
+-- the same of entries that a loop collects
+module _ (d r n : ℕ) (cs os : List ℕ) (long : length os ≡ n) (all : List (ℕ × ℕ)) (xs : List Entry) (k : ℕ) (h : k < n)
+    (inv : map pair_of xs ++ picked d (drop k os) (drop k (rows_of r n cs)) ≡ all) where
   here : get_or (rows_of r n cs) k [] ≡ nth_row r cs k
   here = rows_at r n cs k h
 
-  pub pick_more : (v : ℕ) → v ≡ part (get_or os k 0, get_or (nth_row r cs k) d 0) → m < length xs → next_same (d + 1) (nth_row r cs k) (drop (k + 1) (rows_of r n cs)) ≡ false
-      → map part (picked d os (rows_of r n cs)) ≡ take (m + 1) (set xs m v) ++ map part (picked d (drop (k + 1) os) (drop (k + 1) (rows_of r n cs)))
-  pick_more v e l s =
-      let deeper : suc d ≡ d + 1 = omega arith in
-      let step = picks_more d os (rows_of r n cs) k (omega arith) (omega (arith, rows_long r n cs))
-      (ap₂ (λ x y. next_same x y (drop (k + 1) (rows_of r n cs))) deeper here ∙ s) in
-      inv ∙ ap (λ z. take m xs ++ map part z) step
-      ∙ ap (λ z. take m xs ++ (z ∷ map part (picked d (drop (k + 1) os) (drop (k + 1) (rows_of r n cs))))) (ap (λ y. part (get_or os k 0, get_or y d 0)) here ∙ sym e)
-      ∙ sym (ap (λ z. z ++ map part (picked d (drop (k + 1) os) (drop (k + 1) (rows_of r n cs)))) (take_more_set xs m v l)
-      ∙ append_assoc (take m xs) (v ∷ []) (map part (picked d (drop (k + 1) os) (drop (k + 1) (rows_of r n cs)))))
+  abbrev rest : List (ℕ × ℕ)
+  rest = picked d (drop (k + 1) os) (drop (k + 1) (rows_of r n cs))
+
+  same_next : next_same (suc d) (get_or (rows_of r n cs) k []) (drop (k + 1) (rows_of r n cs)) ≡ next_same (d + 1) (nth_row r cs k) (drop (k + 1) (rows_of r n cs))
+  same_next = ap₂ (λ x y. next_same x y (drop (k + 1) (rows_of r n cs))) (let e : suc d ≡ d + 1 = omega arith in e) here
+
+  pub pick_more : (e : Entry) → e.owner ≡ get_or os k 0 → e.coordinate ≡ get_or (nth_row r cs k) d 0
+      → next_same (d + 1) (nth_row r cs k) (drop (k + 1) (rows_of r n cs)) ≡ false
+      → map pair_of (xs ++ e ∷ []) ++ picked d (drop (k + 1) os) (drop (k + 1) (rows_of r n cs)) ≡ all
+  pick_more e a b s =
+      ap (λ z. z ++ rest) (map_push pair_of xs e) ∙ append_assoc (map pair_of xs) (pair_of e ∷ []) rest
+      ∙ ap (λ (z : ℕ × ℕ). map pair_of xs ++ (z ∷ rest)) (ap₂ (λ (x y : ℕ). (x, y)) a (b ∙ ap (λ y. get_or y d 0) (sym here)))
+      ∙ ap (λ z. map pair_of xs ++ z) (sym (picks_more d os (rows_of r n cs) k (omega arith) (omega (arith, rows_long r n cs)) (same_next ∙ s)))
+      ∙ inv
 
   pub pick_again : next_same (d + 1) (nth_row r cs k) (drop (k + 1) (rows_of r n cs)) ≡ true
-      → map part (picked d os (rows_of r n cs)) ≡ take m xs ++ map part (picked d (drop (k + 1) os) (drop (k + 1) (rows_of r n cs)))
+      → map pair_of xs ++ picked d (drop (k + 1) os) (drop (k + 1) (rows_of r n cs)) ≡ all
   pick_again s =
-      let deeper : suc d ≡ d + 1 = omega arith in
-      inv ∙ ap (λ z. take m xs ++ map part z) (picks_again d os (rows_of r n cs) k (omega arith) (omega (arith, rows_long r n cs))
-      (ap₂ (λ x y. next_same x y (drop (k + 1) (rows_of r n cs))) deeper here ∙ s))
+      ap (λ z. map pair_of xs ++ z) (sym (picks_again d os (rows_of r n cs) k (omega arith) (omega (arith, rows_long r n cs)) (same_next ∙ s))) ∙ inv
 
-pub pick_all : (d : ℕ) (os : List ℕ) (css : List (List ℕ)) (part : ℕ × ℕ → ℕ) (xs : List ℕ) (m k : ℕ) → length os ≤ k
-    → map part (picked d os css) ≡ take m xs ++ map part (picked d (drop k os) (drop k css)) → take m xs ≡ map part (picked d os css)
-pick_all d os css part xs m k h inv = sym (inv ∙ ap (λ z. take m xs ++ map part z) (picks_none d os css k h) ∙ append-nil (take m xs))
+pub pick_all : (d : ℕ) (os : List ℕ) (css : List (List ℕ)) (all : List (ℕ × ℕ)) (xs : List Entry) (k : ℕ) → length os ≤ k
+    → map pair_of xs ++ picked d (drop k os) (drop k css) ≡ all → map pair_of xs ≡ all
+pick_all d os css all xs k h inv = sym (append-nil (map pair_of xs)) ∙ ap (λ z. map pair_of xs ++ z) (sym (picks_none d os css k h)) ∙ inv
+
+-- entries as two lists, and as pairs
+owners_paired : (xs : List Entry) → owners_of xs ≡ map (λ x. x.0) (map pair_of xs)
+owners_paired [] = refl
+owners_paired (e ∷ xs) = ap (λ (z : List ℕ). e.owner ∷ z) (owners_paired xs)
+
+coordinates_paired : (xs : List Entry) → coordinates_of xs ≡ map (λ x. x.1) (map pair_of xs)
+coordinates_paired [] = refl
+coordinates_paired (e ∷ xs) = ap (λ (z : List ℕ). e.coordinate ∷ z) (coordinates_paired xs)
+
+pub picked_owners : (xs ys : List Entry) (ps : List (ℕ × ℕ)) → xs ≡ ys → map pair_of ys ≡ ps → owners_of xs ≡ map (λ x. x.0) ps
+picked_owners xs ys ps a b = ap owners_of a ∙ owners_paired ys ∙ ap (map (λ x. x.0)) b
+
+pub picked_coordinates : (xs ys : List Entry) (ps : List (ℕ × ℕ)) → xs ≡ ys → map pair_of ys ≡ ps → coordinates_of xs ≡ map (λ x. x.1) ps
+picked_coordinates xs ys ps a b = ap coordinates_of a ∙ coordinates_paired ys ∙ ap (map (λ x. x.1)) b

@@ -30,6 +30,13 @@ module _ (rules : FormatRules) (meaning : ℕ → LevelSize → List ℕ → Lev
     pub led : (k : ℕ) → k < length css → reached (levels_on rules meaning (take i ls) after) (Some 0) (take i (get_or css k [])) ≡ Some (get_or os k 0)
     pub rest : drop start after ≡ drop start ws
 
+-- The level at i as the levels before it leave it: its numbers, the owners of its entries, and the words that it needs.
+pub record Next (rules : FormatRules) (ls : List (ℕ × LevelSize)) (es : List ℕ) (css : List (List ℕ)) (i start : ℕ) (os : List ℕ) (k : ℕ) (s : LevelSize) : Type 0 where
+  pub extent : s.extent ≡ get_or es i 0
+  pub entries : s.entries ≡ length (fronts (suc i) css)
+  pub owned : Owners i s.fibers os css
+  pub room : start + rules.need k s ≤ needed rules ls
+
 -- the level that a record has at i
 pub level_at : (ls : List LevelRecord) (rank i : ℕ) (d : LevelRecord) → i < rank → length (map level_of (take rank ls)) ≡ rank
     → get_or (map level_of (take rank ls)) i (0, level_size 0 0 0) ≡ level_of (get_or ls i d)
@@ -109,24 +116,28 @@ module _ (rules : FormatRules) (meaning : ℕ → LevelSize → List ℕ → Lev
     front_is : take (i + 1) ls ≡ take i ls ++ (k, s) ∷ []
     front_is = take_more ls i (0, level_size 0 0 0) long ∙ ap (λ x. take i ls ++ x ∷ []) is
 
-    pub its_extent : s.extent ≡ get_or es i 0
+    its_extent : s.extent ≡ get_or es i 0
     its_extent = ap (λ x. x.1.extent) level_is
 
     pub its_fibers : s.fibers ≡ f
     its_fibers = ap (λ x. x.1.fibers) level_is
 
-    pub its_entries : s.entries ≡ length (fronts (suc i) css)
+    its_entries : s.entries ≡ length (fronts (suc i) css)
     its_entries = ap (λ x. x.1.entries) level_is ∙ ap (λ n. length (fronts n css)) (let e : i + 1 ≡ suc i = omega arith in e)
 
-    pub its_owners : Owners i s.fibers os css
+    its_owners : Owners i s.fibers os css
     its_owners = subst (λ n. Owners i n os css) (sym its_fibers) (standing_owners (omega arith))
 
-    pub its_room : start + rules.need k s ≤ needed rules ls
+    its_room : start + rules.need k s ≤ needed rules ls
     its_room =
         let a = ap (needed rules) front_is ∙ needed_more rules (take i ls) (k, s) in
         let b = sum_by-take-le (λ x. x) (map (λ l. rules.need l.0 l.1) ls) (i + 1) in
         let e = ap sum (take-map (λ l. rules.need l.0 l.1) (i + 1) ls) in
         omega (arith, t.at)
+
+    -- what a turn of the building has of its level
+    pub next_level : Next rules ls es css i start os k s
+    next_level = record { extent = its_extent; entries = its_entries; owned = its_owners; room = its_room }
 
     module _ (deeper new : List ℕ) (a : Added (rules.need k s) (kept k s) (meaning k s) i start css os after deeper new)
         (lawful : Lawful s.extent s.fibers (rules.children k s) (meaning k s (take (rules.need k s) (drop start new)))) where

@@ -1,11 +1,15 @@
 -- What the passes of a STORE leave: the lists that a level is built from, and values put at their positions.
 use Rattle.std.specs.Prelude.{◌≡◌, ℕ, suc, ◌+◌, ◌<◌, cond, List, [], ◌∷◌, length, take, drop, Some, slice_index, slice_index_or, slice_set}
+use Rattle.formats.specs.declared.entry.Entry.{Entry}
 use Rattle.model.specs.Fibers.{Level, fiber, child}
 use Rattle.model.specs.Formats.{LevelSize}
 use Rattle.model.specs.Stores.{FormatRules, positions_from}
 use Rattle.model.specs.Tensors.{Stacked, reached}
 use Rattle.slots.specs.Layouts.{needed, levels_on, Kept}
 use Rattle.plans.specs.Rows.{next_same}
+
+abbrev pub pair_of : Entry → ℕ × ℕ
+pair_of e = (e.owner, e.coordinate)
 
 -- Of rows with an owner each: the owner and the coordinate at depth d of the last row of each front.
 abbrev pub picked : ℕ → List ℕ → List (List ℕ) → List (ℕ × ℕ)

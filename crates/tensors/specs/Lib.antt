@@ -1,3 +1,4 @@
 pub mod Fillings
+pub mod Planned
 pub mod Stored
 pub mod Lookups

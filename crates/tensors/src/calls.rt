@@ -9,7 +9,7 @@ ghost use Rattle.tensors.specs.Stored.{Stored};
 use crate::reading::held_value;
 use crate::slot_store::store_in;
 use levels::Formats;
-use plans::StoreFault;
+use plans::{StoreFault, StoreRequest};
 use semiring::Semiring;
 use slots::SlotAreas;
 
@@ -33,12 +33,14 @@ pub fn store<V: Semiring, S: Formats>(
         &mut areas.words,
         &mut areas.values,
         room,
-        slot,
-        rank,
-        extents,
-        formats,
-        coordinates,
-        entries,
+        &StoreRequest {
+            slot,
+            rank,
+            extents,
+            formats,
+            coordinates,
+            entries,
+        },
     )
 }
 
@@ -51,15 +53,13 @@ pub fn lookup<V: Semiring, S: Formats>(
 ) -> Option<V>
     ensures { Looked (rules_of S.wants S.births) S.meaning S.kept V.algebra.zero V.reads (slot_sizes areas.now.room.level_words areas.now.room.positions) (state_of areas.now) slot coordinates.now result }
 {
-    let Some(tensor) = areas.slots.get(slot) else {
-        return None;
-    };
+    let (number, tensor) = areas.slots.filled(slot)?;
     if coordinates.len() != tensor.rank {
         return None;
     }
     Some(held_value::<V, S>(
         areas.room,
-        slot,
+        number,
         tensor,
         &areas.words,
         &areas.values,

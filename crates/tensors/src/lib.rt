@@ -7,6 +7,7 @@ mod lists;
 mod reading;
 mod slot_store;
 mod storing;
+mod tensor_plan;
 mod values;
 
 pub use calls::{lookup, store};

@@ -1,42 +1,21 @@
 // Values read back through the levels.
-ghost use Rattle.std.specs.Prelude.{◌≡◌, ℕ, ◌+◌, ◌*◌, ◌≤◌, min, map, length, take, Some};
+ghost use Rattle.std.specs.Prelude.{◌≡◌, ℕ, ◌*◌, ◌≤◌, map, length, take, Some};
 ghost use Rattle.model.specs.Fibers.{Ascends, coords, fiber, fiber_at, child};
 ghost use Rattle.model.specs.Tensors.{reached, value_at as held_at, held_value as value_held};
-ghost use Rattle.formats.specs.Sizes.{size_of};
+ghost use Rattle.levels.specs.Stored.{level_of};
 ghost use Rattle.slots.specs.Layouts.{part, levels_on, Kept, storage};
 ghost use Rattle.slots.specs.Records.{sizes};
 ghost use Rattle.plans.specs.Rooms.{rules_of};
 
-use crate::storing::start_of;
-use levels::{Formats, find};
+use levels::{Formats, StoredLevel};
 use semiring::Semiring;
-use slots::{LevelRecord, SlotSizes, TensorRecord};
+use slots::{SlotNumber, SlotSizes, TensorRecord};
 
 // The child of what a reference, or none, leads to.
-fn step<S: Formats>(
-    level: LevelRecord,
-    words: &[u32],
-    reference: Option<u32>,
-    c: u32,
-) -> Option<u32>
-    ensures { ((p : ℕ) → Ascends (coords (fiber (S.meaning level.format (size_of level.size) words.now) p))) → result ≡ child (fiber_at (S.meaning level.format (size_of level.size) words.now) reference) c }
+fn step<S: Formats>(level: StoredLevel<'_>, reference: Option<u32>, c: u32) -> Option<u32>
+    ensures { ((p : ℕ) → Ascends (coords (fiber (level_of S.meaning level.entry) p))) → result ≡ child (fiber_at (level_of S.meaning level.entry) reference) c }
 {
-    match reference {
-        Some(p) => find::<S>(level.format, level.size, words, p, c),
-        None => None,
-    }
-}
-
-// Where a part of so many words ends, and at the latest with the words.
-fn end_of(start: usize, need: usize, len: usize) -> usize
-    requires { start ≤ len }
-    ensures { result ≡ min (start + need) len }
-{
-    if need > len - start {
-        len
-    } else {
-        start + need
-    }
+    level.find::<S>(reference?, c)
 }
 
 // The reference that the coordinates lead to, a level for each.
@@ -46,11 +25,15 @@ fn reach<S: Formats>(tensor: TensorRecord, words: &[u32], coordinates: &[u32]) -
 {
     let mut reference = Some(0);
     let mut start: usize = 0;
-    for i in 0..tensor.rank {
-        let level = tensor.levels[i];
+    for (level, coordinate) in tensor.levels[..tensor.rank].iter().zip(coordinates) {
         let need = S::need(level.format, level.size);
-        let end = end_of(start, need, words.len());
-        reference = step::<S>(level, &words[start..end], reference, coordinates[i]);
+        let end = start.saturating_add(need).min(words.len());
+        let stored = StoredLevel {
+            number: level.format,
+            size: level.size,
+            words: &words[start..end],
+        };
+        reference = step::<S>(stored, reference, *coordinate);
         start = end;
     }
     reference
@@ -71,23 +54,22 @@ fn value_at<V: Semiring>(reference: Option<u32>, used: usize, values: &[V::Plain
 }
 
 // The value that a slot's parts of the areas hold at coordinates.
-pub fn held_value<V: Semiring, S: Formats>(
+pub(crate) fn held_value<V: Semiring, S: Formats>(
     room: SlotSizes,
-    slot: usize,
+    slot: SlotNumber,
     tensor: TensorRecord,
     words: &[u32],
     values: &[V::Plain],
     coordinates: &[u32],
 ) -> V
-    requires in_range { slot ≤ 7 }
     requires words_area { 8 * room.level_words ≤ length words.now }
     requires values_area { 8 * room.positions ≤ length values.now }
     requires rank { length coordinates.now ≡ tensor.rank }
-    ensures { Kept (rules_of S.wants S.births) S.kept (sizes tensor) (part slot room.level_words words.now) → result ≡ value_held V.algebra.zero (storage (rules_of S.wants S.births) S.meaning V.reads (sizes tensor) tensor.positions (part slot room.level_words words.now) (part slot room.positions values.now)) coordinates.now }
+    ensures { Kept (rules_of S.wants S.births) S.kept (sizes tensor) (part slot.number room.level_words words.now) → result ≡ value_held V.algebra.zero (storage (rules_of S.wants S.births) S.meaning V.reads (sizes tensor) tensor.positions (part slot.number room.level_words words.now) (part slot.number room.positions values.now)) coordinates.now }
 {
-    let from = start_of(slot, room.level_words);
+    let from = room.first_word(slot);
     let reference = reach::<S>(tensor, &words[from..from + room.level_words], coordinates);
-    let at = start_of(slot, room.positions);
+    let at = room.first_position(slot);
     value_at::<V>(
         reference,
         tensor.positions,

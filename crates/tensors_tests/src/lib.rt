@@ -14,25 +14,17 @@ mod tests {
 
     // Areas full of sevens: eight slots of 6 positions and 8 level words.
     fn sevens(heap: Global) -> Result<SlotAreas<u32>, Fail> {
-        let Some(room) = SlotSizes::new(6, 8) else {
-            return Err(Fail::new("sizes"));
-        };
+        let room = SlotSizes::new(6, 8).ok_or_else(|| Fail::new("sizes"))?;
         let words = vec![in heap; 7u32; 64]?;
         let values = vec![in heap; 7u32; 48]?;
-        match SlotAreas::new(room, words, values) {
-            Ok(areas) => Ok(areas),
-            Err(_) => Err(Fail::new("areas")),
-        }
+        SlotAreas::new(room, words, values).map_err(|_| Fail::new("areas"))
     }
 
     // Whether all words but those from `from` up to `to` are sevens.
     fn kept_but(xs: &[u32], from: usize, to: usize) -> bool {
-        for i in 0..xs.len() {
-            if (i < from || i >= to) && xs[i] != 7 {
-                return false;
-            }
-        }
-        true
+        xs.iter()
+            .enumerate()
+            .all(|(i, x)| from <= i && i < to || *x == 7)
     }
 
     fn put(
@@ -55,10 +47,8 @@ mod tests {
     }
 
     fn at(areas: &SlotAreas<u32>, slot: usize, coordinates: &[u32]) -> Result<u32, Fail> {
-        match lookup::<Count, Two<Dense, Compressed>>(areas, slot, coordinates) {
-            Some(count) => Ok(count.value),
-            None => Err(Fail::new("no value")),
-        }
+        let count = lookup::<Count, Two<Dense, Compressed>>(areas, slot, coordinates);
+        Ok(count.ok_or_else(|| Fail::new("no value"))?.value)
     }
 
     #[test]

@@ -3,7 +3,6 @@
 
 mod combining;
 mod loading;
-mod recording;
 mod summing;
 
 pub use combining::{add, multiply};

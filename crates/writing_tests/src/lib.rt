@@ -6,7 +6,7 @@ mod tests {
     use results::ResultKey;
     use semiring::Count;
     use tapes::part::Part;
-    use writing::{KeyPlaces, Nest, write};
+    use writing::{LeafCursor, Nest, write};
 
     const S0: u32 = 0x8000_0000;
 
@@ -16,33 +16,22 @@ mod tests {
 
     const D: u32 = 0x8000_00FF;
 
-    const NO_KEY: ResultKey = ResultKey {
-        first: 0,
-        second: 0,
-        third: 0,
-    };
+    const NO_KEY: ResultKey = ResultKey { parts: [0; 3] };
 
     const NOTHING: Part = Part { from: 0, to: 0 };
 
     // No tape around the leaves.
     const BARE: Nest = Nest {
-        first: NOTHING,
-        second: NOTHING,
-        third: NOTHING,
-        fourth: NOTHING,
+        tapes: [NOTHING; 4],
         depth: 0,
     };
 
-    fn depths(first: u8, second: u8, third: u8) -> KeyPlaces {
-        KeyPlaces {
-            first,
-            second,
-            third,
-        }
+    fn leaves(tape: Part, nest: Nest, depths: [u8; 3]) -> LeafCursor {
+        LeafCursor { tape, nest, depths }
     }
 
     fn stands(key: ResultKey, first: u32, second: u32, third: u32) -> bool {
-        key.first == first && key.second == second && key.third == third
+        key.parts == [first, second, third]
     }
 
     // One leaf, at the key of no coordinates: it takes one key, and is added to it the next time.
@@ -56,9 +45,7 @@ mod tests {
         let none = write::<Count>(
             &words,
             &values,
-            tape,
-            BARE,
-            depths(0, 0, 0),
+            leaves(tape, BARE, [0, 0, 0]),
             &mut keys[0..0],
             &mut sums,
             0,
@@ -67,9 +54,7 @@ mod tests {
         let n = write::<Count>(
             &words,
             &values,
-            tape,
-            BARE,
-            depths(0, 0, 0),
+            leaves(tape, BARE, [0, 0, 0]),
             &mut keys,
             &mut sums,
             0,
@@ -79,9 +64,7 @@ mod tests {
         let n = write::<Count>(
             &words,
             &values,
-            tape,
-            BARE,
-            depths(0, 0, 0),
+            leaves(tape, BARE, [0, 0, 0]),
             &mut keys,
             &mut sums,
             1,
@@ -96,7 +79,7 @@ mod tests {
         let words = [6, 2, S0, D, 0, 1, S0, D, S0, D];
         let values = [5, 7];
         let mut nest = BARE;
-        nest.first = Part { from: 0, to: 4 };
+        nest.tapes[0] = Part { from: 0, to: 4 };
         nest.depth = 1;
         let mut keys = [NO_KEY; 2];
         let mut sums = [9; 2];
@@ -104,9 +87,7 @@ mod tests {
         let n = write::<Count>(
             &words,
             &values,
-            tape,
-            nest,
-            depths(1, 0, 0),
+            leaves(tape, nest, [1, 0, 0]),
             &mut keys,
             &mut sums,
             0,
@@ -114,13 +95,11 @@ mod tests {
         assert_eq!(rt; n, Some(2));
         assert!(rt; stands(keys[0], 2, 0, 0) && stands(keys[1], 6, 0, 0));
         assert_eq!(rt; sums, [7, 5]);
-        nest.first = Part { from: 8, to: 10 };
+        nest.tapes[0] = Part { from: 8, to: 10 };
         let n = write::<Count>(
             &words,
             &values,
-            nest.first,
-            nest,
-            depths(1, 0, 0),
+            leaves(nest.tapes[0], nest, [1, 0, 0]),
             &mut keys,
             &mut sums,
             2,
@@ -130,17 +109,17 @@ mod tests {
     }
 
     // Writes leaves below the lists [3, 7], [] and [3] below 1, 4 and 6.
-    fn write_lists(places: KeyPlaces, keys: &mut [ResultKey], sums: &mut [u32]) -> Option<usize> {
+    fn write_lists(places: [u8; 3], keys: &mut [ResultKey], sums: &mut [u32]) -> Option<usize> {
         let words = [
             1, 4, 6, S0, D, 3, 7, S0, S0, 3, S0, S1, D, 0, 1, S0, S0, 2, S0, S1, D,
         ];
         let values = [5, 7, 11];
         let mut nest = BARE;
-        nest.first = Part { from: 0, to: 5 };
-        nest.second = Part { from: 5, to: 13 };
+        nest.tapes[0] = Part { from: 0, to: 5 };
+        nest.tapes[1] = Part { from: 5, to: 13 };
         nest.depth = 2;
         let tape = Part { from: 13, to: 21 };
-        write::<Count>(&words, &values, tape, nest, places, keys, sums, 0)
+        write::<Count>(&words, &values, leaves(tape, nest, places), keys, sums, 0)
     }
 
     // By the second depth the key 3 is hit twice.
@@ -149,9 +128,9 @@ mod tests {
         let mut few = [NO_KEY; 1];
         let mut keys = [NO_KEY; 2];
         let mut sums = [9; 3];
-        assert_eq!(rt; write_lists(depths(2, 0, 0), &mut few, &mut sums), None);
+        assert_eq!(rt; write_lists([2, 0, 0], &mut few, &mut sums), None);
         assert_eq!(rt; sums, [9; 3]);
-        assert_eq!(rt; write_lists(depths(2, 0, 0), &mut keys, &mut sums), Some(2));
+        assert_eq!(rt; write_lists([2, 0, 0], &mut keys, &mut sums), Some(2));
         assert!(rt; stands(keys[0], 3, 0, 0) && stands(keys[1], 7, 0, 0));
         assert_eq!(rt; sums, [16, 7, 9]);
     }
@@ -162,9 +141,9 @@ mod tests {
         let mut keys = [NO_KEY; 3];
         let mut few = [9; 2];
         let mut sums = [9; 3];
-        assert_eq!(rt; write_lists(depths(2, 1, 0), &mut keys, &mut few), None);
+        assert_eq!(rt; write_lists([2, 1, 0], &mut keys, &mut few), None);
         assert_eq!(rt; few, [9; 2]);
-        assert_eq!(rt; write_lists(depths(2, 1, 0), &mut keys, &mut sums), Some(3));
+        assert_eq!(rt; write_lists([2, 1, 0], &mut keys, &mut sums), Some(3));
         assert!(rt;
             stands(keys[0], 3, 1, 0) && stands(keys[1], 3, 6, 0) && stands(keys[2], 7, 1, 0)
         );
@@ -180,9 +159,9 @@ mod tests {
         ];
         let values = [5, 7, 11];
         let mut nest = BARE;
-        nest.first = Part { from: 0, to: 4 };
-        nest.second = Part { from: 4, to: 11 };
-        nest.third = Part { from: 11, to: 21 };
+        nest.tapes[0] = Part { from: 0, to: 4 };
+        nest.tapes[1] = Part { from: 4, to: 11 };
+        nest.tapes[2] = Part { from: 11, to: 21 };
         nest.depth = 3;
         let tape = Part { from: 21, to: 31 };
         let mut keys = [NO_KEY; 3];
@@ -190,9 +169,7 @@ mod tests {
         let n = write::<Count>(
             &words,
             &values,
-            tape,
-            nest,
-            depths(3, 1, 2),
+            leaves(tape, nest, [3, 1, 2]),
             &mut keys,
             &mut sums,
             0,

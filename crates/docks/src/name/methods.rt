@@ -1,21 +1,14 @@
 // How a name is made and read.
-ghost use Rattle.std.specs.Prelude.{◌≡◌, true, false, [], MatchOption};
+ghost use Rattle.std.specs.Prelude.{◌≡◌, true, false, MatchOption};
 ghost use Rattle.docks.specs.Tables.{is_name};
 ghost use Rattle.docks.specs.Views.{name_bytes};
 
 use super::Name;
 use crate::fields::is_name;
+use arrayvec::ArrayString;
+use std::str;
 
 impl Name {
-    pub(crate) fn empty() -> Name
-        ensures { name_bytes result ≡ [] }
-    {
-        Name {
-            bytes: [0; 16],
-            len: 0,
-        }
-    }
-
     // A field as a name, if it is one.
     pub(crate) fn new(field: &[u8]) -> Option<Name>
         ensures { MatchOption result (is_name field.now ≡ false) (λ n. (is_name field.now ≡ true) × (name_bytes n ≡ field.now)) }
@@ -23,17 +16,14 @@ impl Name {
         if !is_name(field) {
             return None;
         }
-        let mut bytes = [0; 16];
-        bytes[0..field.len()].copy_from_slice(field);
-        Some(Name {
-            bytes,
-            len: field.len(),
-        })
+        let field = str::from_utf8(field).unwrap();
+        let text = ArrayString::from(field).unwrap();
+        Some(Name { text })
     }
 
     pub fn as_bytes(&self) -> &[u8]
         ensures { result.now ≡ name_bytes self.now }
     {
-        &self.bytes[0..self.len]
+        self.text.as_str().as_bytes()
     }
 }

@@ -22,10 +22,8 @@ impl<V: Semiring, S: Formats> Rack<V, S> {
     pub fn new(sizes: RackSizes, areas: Areas<V::Plain>) -> Result<Rack<V, S>, Areas<V::Plain>>
         ensures { MadeRack V.algebra V.reads (rules_of S.wants S.births) S.meaning sizes areas result }
     {
-        match RackState::new(sizes, areas) {
-            Ok(state) => Ok(Rack { state }),
-            Err(back) => Err(back),
-        }
+        let state = RackState::new(sizes, areas)?;
+        Ok(Rack { state })
     }
 
     // Hands the areas back, as they are.
@@ -40,9 +38,9 @@ impl<V: Semiring, S: Formats> Rack<V, S> {
         ensures { result ≡ taking (seen self.now) }
     {
         InUse {
-            words: self.state.tapes.used,
-            values: self.state.tapes.taken,
-            results: self.state.count,
+            words: self.state.streams.tapes.used,
+            values: self.state.streams.tapes.taken,
+            results: self.state.results.count,
         }
     }
 

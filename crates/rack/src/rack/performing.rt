@@ -5,7 +5,7 @@ ghost use Rattle.rack.specs.Racks.{seen};
 ghost use Rattle.rack.specs.Events.{call_of, answer_of};
 ghost use Rattle.rack.specs.Runs.{Performed};
 
-use crate::events::{Answer, Call};
+use crate::events::{Answer, Call, Done};
 use crate::rack::Rack;
 use levels::Formats;
 use semiring::Semiring;
@@ -23,26 +23,14 @@ impl<V: Semiring, S: Formats> Rack<V, S> {
                 formats,
                 coordinates,
                 values,
-            } => match self.store(slot, rank, extents, formats, coordinates, values) {
-                Ok(positions) => Answer::Stored(positions),
-                Err(fault) => Answer::Refused(fault),
-            },
-            Call::Compile { line } => match self.compile(line) {
-                Ok(commands) => Answer::Compiled(commands),
-                Err(fault) => Answer::Refused(fault),
-            },
-            Call::Step => match self.step() {
-                Ok(remaining) => Answer::Stepped(remaining),
-                Err(fault) => Answer::Refused(fault),
-            },
-            Call::Read { n } => match self.read(n) {
-                Ok(entry) => Answer::Listed(entry),
-                Err(fault) => Answer::Refused(fault),
-            },
-            Call::Drop => match self.drop_graph() {
-                Ok(done) => Answer::Dropped(done),
-                Err(fault) => Answer::Refused(fault),
-            },
+            } => {
+                let positions = self.store(slot, rank, extents, formats, coordinates, values)?;
+                Ok(Done::Stored(positions))
+            }
+            Call::Compile { line } => Ok(Done::Compiled(self.compile(line)?)),
+            Call::Step => Ok(Done::Stepped(self.step()?)),
+            Call::Read { n } => Ok(Done::Listed(self.read(n)?)),
+            Call::Drop => Ok(Done::Dropped(self.drop_graph()?)),
         }
     }
 
@@ -51,8 +39,8 @@ impl<V: Semiring, S: Formats> Rack<V, S> {
         ensures { Performed V.algebra V.reads (rules_of S.wants S.births) S.meaning calls.now (seen self.old) answers.old (seen self.new) answers.new }
     {
         let n = calls.len().min(answers.len());
-        for i in 0..n {
-            answers[i] = self.call(calls[i]);
+        for (i, call) in calls[..n].iter().enumerate() {
+            answers[i] = self.call(*call);
         }
     }
 }

@@ -7,6 +7,7 @@ ghost use Rattle.results.specs.Keys.{coordinates};
 ghost use Rattle.results.specs.Held.{held, Grown};
 
 use super::ResultTable;
+use crate::fault::TableFull;
 use crate::key::ResultKey;
 use crate::listing::nth_nonzero;
 use crate::rows::add;
@@ -14,7 +15,11 @@ use semiring::Semiring;
 
 impl<P: Copy> ResultTable<'_, '_, P> {
     // Adds a value at a key; refused, with nothing stored, where the key is new and a row is full.
-    pub fn add_value<V: Semiring<Plain = P>>(&mut self, key: ResultKey, value: V) -> bool
+    pub fn add_value<V: Semiring<Plain = P>>(
+        &mut self,
+        key: ResultKey,
+        value: V,
+    ) -> Result<(), TableFull>
         ensures held { Grown V.algebra V.reads (coordinates key) value self.old result self.new }
         ensures keys { self.new.keys.ghost_name ≡ self.old.keys.ghost_name }
         ensures values { self.new.values.ghost_name ≡ self.old.values.ghost_name }
@@ -23,9 +28,9 @@ impl<P: Copy> ResultTable<'_, '_, P> {
         match add(keys, values, *len, key, value) {
             Some(n) => {
                 *len = n;
-                true
+                Ok(())
             }
-            None => false,
+            None => Err(TableFull),
         }
     }
 

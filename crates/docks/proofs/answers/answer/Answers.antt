@@ -1,6 +1,5 @@
-use Rattle.docks.specs.Answers.{leg_at}
-use Rattle.docks.specs.declared.side.Side.TheVariants.{In, Out}
-use Rattle.docks.proofs.Rows.{front_read, dot_at}
+use Rattle.std.proofs.Common.{rules}
+use Rattle.docks.proofs.Rows.{front_read, dot_at, unwrapped}
 use Rattle.docks.proofs.answers.answer.Goals as goal
 
 pub returns : goal.returns
@@ -9,6 +8,8 @@ returns g c =
     let worth = g.V.Leg.worth in
     let ds = c.args.docks.now in
     let again = g.met.V.Semiring.again in
-    dot_at k.algebra c.in-Some.ensures.1
-    (front_read k.reads k.stored again (λ e. worth (leg_at In e)) ds _ _ c.fill.ensures)
-    (front_read k.reads k.stored again (λ e. worth (leg_at Out e)) ds _ _ c.fill-2.ensures)
+    let first = c.fill.ensures (λ e. e.leg_in) (λ d t r. search rules) in
+    let second = c.fill-2.ensures (λ e. e.leg_out) (λ d t r. search rules) in
+    dot_at k.algebra (unwrapped _ c.dot.result c.unwrap.result c.dot.ensures c.unwrap.ensures)
+    (front_read k.reads k.stored again (λ e. worth e.leg_in) ds _ _ first)
+    (front_read k.reads k.stored again (λ e. worth e.leg_out) ds _ _ second)

@@ -2,14 +2,8 @@ use Rattle.std.proofs.Common.{◌+◌, ap, ◌∙◌, arith, true-eqb, false-eqb
 use Rattle.std.proofs.lemmas.Result.{err_from_is_err_and}
 use Rattle.docks.specs.Tables.{says}
 use Rattle.docks.specs.Views.{entries, entry_of}
-use Rattle.docks.proofs.Sofar.{at_start, one_more, at_fault, at_end, few}
+use Rattle.docks.proofs.Sofar.{one_more, at_fault, at_end}
 use Rattle.docks.proofs.reading.read_table.Goals as goal
-
-pub loop-rest-init : goal.loop-rest-init
-loop-rest-init c = at_start _ c.args.text.now c.new-table.ensures
-
-pub push-requires : goal.push-requires
-push-requires c = omega (arith, few _ c.next_line.result.0.now _ c.in_ok-dock.ensures, c.len.ensures.value)
 
 pub loop-rest-smaller : goal.loop-rest-smaller
 loop-rest-smaller c = c.next_line.ensures.less (omega (arith, false-eqb _ 0 c.loop-rest-test.ensures))

@@ -1,4 +1,4 @@
 use Rattle.lines.proofs.accesses.+collect.Given as goal
 
 abbrev pub decreases-collect : goal.decreases-collect
-decreases-collect l = l.i
+decreases-collect l = l.at

@@ -1,21 +1,28 @@
-use Rattle.std.proofs.Common.{◌<◌, true, false, arith}
+use Rattle.std.proofs.Common.{rules, tests, ◌≡◌, ℕ, Bool, not, eqb, Bor, ap, ◌∙◌}
+use Rattle.std.specs.List.{find, flat_map, zip}
+use Rattle.std.specs.Option.{option_map}
+use Rattle.std.proofs.lemmas.Iterator.{YieldsList-from_slice, YieldsList-from_zip}
+use Rattle.std.proofs.lemmas.Iterator.Search.{find_from_yields_List}
+use Rattle.std.proofs.lemmas.Iterator.Consumers.{YieldsList-at, YieldsList-from_first}
+use Rattle.model.specs.Conditions.{extents_of, extent_in}
+use Rattle.reader.specs.Lists.{placed_of}
+use Rattle.reader.specs.Walked.{left}
 use Rattle.lines.specs.Given.{slots_of}
-use Rattle.lines.specs.Sizes.{differs}
-use Rattle.lines.proofs.Sizing.{check_short, check_at, extents_differ, extents_same}
+use Rattle.lines.specs.Sizes.{sized_of}
+use Rattle.lines.proofs.FirstFaults.{map_through}
+use Rattle.lines.proofs.Sizing.{differ_by_find}
 use Rattle.lines.proofs.extents.differs_at.Goals as goal
 
-pub returns-in_err-extent : goal.returns-in_err-extent
-returns-in_err-extent c =
-    rw c.from_residual.ensures (check_short (differs (slots_of c.args.slots.now) c.args.text.now c.args.accesses.now) _ _ _ _ _ _ c.loop-k.invariant c.in_err-extent.ensures)
-
-pub returns-then-extent-extent_of : goal.returns-then-extent-extent_of
-returns-then-extent-extent_of c =
-    let h : c.loop-k.k < c.args.access.vars.count = omega arith in
-    let e = c.in_ok-extent.ensures in
-    check_at (differs (slots_of c.args.slots.now) c.args.text.now c.args.accesses.now) _ _ _ _ _ _ c.loop-k.invariant h e.0 true (extents_differ _ _ _ _ e.1 c.extent_of.ensures c.if-extent-extent_of.true)
-
-pub loop-k-preserved : goal.loop-k-preserved
-loop-k-preserved c =
-    let h : c.loop-k.k < c.args.access.vars.count = omega arith in
-    let e = c.in_ok-extent.ensures in
-    check_at (differs (slots_of c.args.slots.now) c.args.text.now c.args.accesses.now) _ _ _ _ _ _ c.loop-k.invariant h e.0 false (extents_same _ _ _ _ e.1 c.extent_of.ensures c.if-extent-extent_of.false)
+pub returns : goal.returns
+returns c =
+    let xs = placed_of c.args.text.now c.args.access.vars in
+    let es = extents_of (slots_of c.args.slots.now c.args.access.slot) in
+    let first : ℕ → ℕ = extent_in (flat_map (sized_of (slots_of c.args.slots.now) c.args.text.now) c.args.accesses.now) in
+    let test : (ℕ × ℕ) × ℕ → Bool = λ p. not (eqb p.1 (first p.0.1)) in
+    let bare : (ℕ × ℕ) × Bor ℕ → (ℕ × ℕ) × ℕ = λ p. (p.0, p.1.now) in
+    let found : option_map bare c.find.result ≡ find test (zip xs es) =
+    find_from_yields_List test c.find.new.self _ c.find.result c.find.ensures.ran
+    (YieldsList-from_zip (YieldsList-at c.zip.ensures.first (YieldsList-from_first (λ x. x) left xs c.vars.ensures)) (YieldsList-from_slice es (cc)))
+    (λ x b q k. search (rules, tests)) in
+    let placed : c.map.result ≡ option_map (λ (p : (ℕ × ℕ) × Bor ℕ). p.0.0) c.find.result = search rules in
+    placed ∙ map_through bare (λ (p : (ℕ × ℕ) × ℕ). p.0.0) c.find.result ∙ ap (option_map (λ (p : (ℕ × ℕ) × ℕ). p.0.0)) found ∙ differ_by_find first xs es

@@ -1,13 +1,8 @@
 use Rattle.std.proofs.Common.{◌<◌, ◌≤◌, length, arith}
-use Rattle.std.proofs.ByRecursion.{All-get_or}
-use Rattle.lines.specs.Lists.{Inside}
 use Rattle.lines.specs.Given.{slots_of}
 use Rattle.lines.specs.Sizes.{sized_of}
 use Rattle.lines.proofs.Sizing.{extent_found, extent_on, extent_none}
 use Rattle.lines.proofs.extents.extent_of.Goals as goal
-
-pub extent_at-requires : goal.extent_at-requires
-extent_at-requires c = All-get_or (λ e. Inside c.args.text.now e.vars) c.args.accesses.now _ _ (omega arith) c.requires
 
 pub returns-in-Some : goal.returns-in-Some
 returns-in-Some c =

@@ -7,5 +7,5 @@ use Rattle.lines.proofs.extents.first_differing.Given as goal
 
 abbrev pub invariant-loop-access : goal.invariant-loop-access
 invariant-loop-access l =
-    first_fault (map (differs (slots_of l.slots) l.text l.accesses) (flat_map (sized_of (slots_of l.slots) l.text) (drop l.access-index l.accesses)))
-    ≡ first_fault (map (differs (slots_of l.slots) l.text l.accesses) (flat_map (sized_of (slots_of l.slots) l.text) l.accesses))
+    first_fault (flat_map (λ e. map (differs (slots_of l.slots) l.text l.accesses) (sized_of (slots_of l.slots) l.text e)) (drop l.access-index l.accesses))
+    ≡ first_fault (flat_map (λ e. map (differs (slots_of l.slots) l.text l.accesses) (sized_of (slots_of l.slots) l.text e)) l.accesses)

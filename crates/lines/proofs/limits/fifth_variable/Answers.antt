@@ -4,24 +4,21 @@ use Rattle.lines.proofs.Counting.{counted_none, counted_all, counted_skips, new_
 use Rattle.lines.proofs.limits.fifth_variable.Goals as goal
 use Rattle.lines.proofs.limits.fifth_variable.Goals.{then-is_new+else-count-ge4, else-is_new}
 
-pub loop-i-init : goal.loop-i-init
-loop-i-init c = counted_none _ _ c.new-seen.ensures
+pub loop-place-init : goal.loop-place-init
+loop-place-init c = counted_none _ _ c.new-seen.ensures
 
 pub returns-then-count-ge4 : goal.returns-then-count-ge4
-returns-then-count-ge4 c = fifth_found _ _ _ _ c.loop-i.invariant (omega arith) c.if-is_new.ensures (omega arith)
+returns-then-count-ge4 c = fifth_found _ _ _ _ c.loop-place.invariant (omega arith) c.if-is_new.ensures (omega arith)
 
-pub insert-requires : goal.insert-requires
-insert-requires c = new_var _ _ _ _ c.loop-i.invariant (omega arith) c.if-is_new.ensures
-
-pub loop-i-preserved : goal.loop-i-preserved
-loop-i-preserved c =
-    let h : c.loop-i.i < length c.args.text.now = omega arith in
+pub loop-place-preserved : goal.loop-place-preserved
+loop-place-preserved c =
+    let h : c.loop-place.place < length c.args.text.now = omega arith in
     elim c.if-is_new.branch [
       | then-is_new+else-count-ge4 w ↦
-          counted_on c.args.text.now c.loop-i.i c.loop-i.seen c.loop-i.count c.loop-i.invariant h w.if-is_new.ensures c.if-is_new.seen _ w.if-count-ge4.false w.count-is
-          (subst (With c.loop-i.seen (get_or c.args.text.now c.loop-i.i 0)) (sym w.seen-is) w.insert.ensures)
-      | else-is_new w ↦ counted_skips _ _ _ _ c.loop-i.invariant h _ _ w.seen-is w.count-is w.if-is_new.ensures
+          counted_on c.args.text.now c.loop-place.place c.loop-place.seen c.loop-place.count c.loop-place.invariant h w.if-is_new.ensures c.if-is_new.seen _ w.if-count-ge4.false w.count-is
+          (subst (With c.loop-place.seen (get_or c.args.text.now c.loop-place.place 0)) (sym w.seen-is) (w.insert.ensures (new_var _ _ _ _ c.loop-place.invariant h w.if-is_new.ensures)))
+      | else-is_new w ↦ counted_skips _ _ _ _ c.loop-place.invariant h _ _ w.seen-is w.count-is w.if-is_new.ensures
     ]
 
 pub returns : goal.returns
-returns c = counted_all _ _ _ _ c.loop-i.invariant (omega arith)
+returns c = counted_all _ _ _ _ c.loop-place.invariant (omega arith)

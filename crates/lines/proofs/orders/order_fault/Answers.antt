@@ -1,24 +1,22 @@
-use Rattle.std.proofs.Common.{arith}
-use Rattle.lines.proofs.Ordering.{passed_none, passed_var, stray_found, passed_on, order_whole}
+use Rattle.std.proofs.Common.{ap, ◌∙◌}
+use Rattle.reader.specs.Walked.{left}
+use Rattle.lines.proofs.FirstFaults.{then_some_is}
+use Rattle.lines.proofs.Ordering.{passed_none, stray_found, passed_on, order_whole}
 use Rattle.lines.proofs.orders.order_fault.Goals as goal
 
-pub loop-k-init : goal.loop-k-init
-loop-k-init c = passed_none _ _ _ _ c.requires.vars c.new-seen.ensures
-
-pub strays-requires : goal.strays-requires
-strays-requires c = passed_var _ _ _ _ _ c.loop-k.invariant (omega arith)
-
-pub insert-requires : goal.insert-requires
-insert-requires c = passed_var _ _ _ _ _ c.loop-k.invariant (omega arith)
+pub loop-place-init : goal.loop-place-init
+loop-place-init c = λ vars.
+    passed_none c.args.text.now c.args.order (left c.into_iter-place-iterator.result) c.args.used.now c.new-seen.result (ap left c.into_iter-place-iterator.ensures.into_iter_gives ∙ c.vars-place-items.ensures) vars c.new-seen.ensures
 
 pub returns-then-strays : goal.returns-then-strays
-returns-then-strays c = λ us vars su. stray_found _ _ _ _ _ c.loop-k.invariant (omega arith) c.if-strays.ensures us su
+returns-then-strays c = λ vars us are su.
+    stray_found c.args.text.now c.args.order (left c.loop-place.place-iterator) c.args.used.now c.loop-place.seen (c.loop-place.invariant vars) (c.in-Some.place, c.in-Some.var) (left c.next.new.self) c.in-Some.ensures.steps c.if-strays.ensures us su
 
-pub loop-k-preserved : goal.loop-k-preserved
-loop-k-preserved c = passed_on _ _ _ _ _ c.loop-k.invariant (omega arith) _ c.if-strays.ensures c.insert.ensures
+pub loop-place-preserved : goal.loop-place-preserved
+loop-place-preserved c = λ vars.
+    passed_on c.args.text.now c.args.order (left c.loop-place.place-iterator) c.args.used.now c.loop-place.seen (c.loop-place.invariant vars) (c.in-Some.place, c.in-Some.var) (left c.next.new.self) c.in-Some.ensures.steps c.insert.new.self c.if-strays.ensures c.insert.ensures
 
-pub returns-then-includes : goal.returns-then-includes
-returns-then-includes c = λ us vars su. order_whole _ _ _ _ _ c.loop-k.invariant (omega arith) us vars su _ c.if-includes.ensures
-
-pub returns-else-includes : goal.returns-else-includes
-returns-else-includes c = λ us vars su. order_whole _ _ _ _ _ c.loop-k.invariant (omega arith) us vars su _ c.if-includes.ensures
+pub returns : goal.returns
+returns c = λ vars us are su.
+    c.then_some.ensures ∙ then_some_is _ _
+    ∙ order_whole c.args.text.now c.args.order (left c.loop-place.place-iterator) c.args.used.now c.loop-place.seen (c.loop-place.invariant vars) c.in-None.ensures.steps.0 us are su c.includes.result c.includes.ensures

@@ -1,5 +1,8 @@
+use Rattle.model.specs.Grammar.{Vars}
+use Rattle.reader.specs.Lists.{vars_of}
+use Rattle.reader.specs.Walked.{left}
 use Rattle.lines.proofs.Ordering.{Passed}
 use Rattle.lines.proofs.orders.order_fault.Given as goal
 
-abbrev pub invariant-loop-k : goal.invariant-loop-k
-invariant-loop-k l = Passed l.text l.order l.k l.used l.seen
+abbrev pub invariant-loop-place : goal.invariant-loop-place
+invariant-loop-place l = Vars (vars_of l.text l.fn.order) → Passed l.text l.fn.order (left l.place-iterator) l.used l.seen

@@ -1,5 +1,4 @@
-use Rattle.std.proofs.Common.{length}
-use Rattle.plans.specs.Rows.{rows_of}
+use Rattle.plans.specs.Rows.{rows_in}
 use Rattle.plans.specs.Rooms.{rules_of}
 use Rattle.plans.proofs.Sizings.{Sized}
 use Rattle.plans.proofs.sizing.measure.Given as goal
@@ -7,4 +6,4 @@ use Rattle.plans.proofs.sizing.measure.Given as goal
 abbrev pub invariant-loop-i : goal.invariant-loop-i
 invariant-loop-i g l =
     Sized l.room.level_words l.room.positions (rules_of g.S.Formats.wants g.S.Formats.births)
-    (rows_of (length l.extents) l.count l.coordinates) l.extents l.formats l.i l.fibers l.words l.levels
+    (rows_in l.rows) l.extents l.formats l.i l.fibers l.words l.levels

@@ -1,4 +1,3 @@
-use Rattle.std.proofs.Common.{refl}
 use Rattle.std.proofs.lemmas.Result.{err_from_is_err_and}
 use Rattle.reader.proofs.Wholes.{bad_head, bad_sum, no_semicolon, bad_order, a_line}
 use Rattle.reader.proofs.parsing.parse.Goals as goal
@@ -13,16 +12,19 @@ returns-in_err-part c =
     let p = err_from_is_err_and c.from_residual-in_err-part.result c.from_residual-in_err-part.ensures.1 in
     rw (p.1, p.2) (bad_sum _ c.if-text-gt256.false _ c.in_ok-body.ensures _ c.in_err-part.ensures)
 
-pub returns-then-not-sees : goal.returns-then-not-sees
-returns-then-not-sees c = no_semicolon _ c.if-text-gt256.false _ c.in_ok-body.ensures _ _ _ c.in_ok-part.ensures c.if-not-sees.ensures
+pub returns-in_err-expect : goal.returns-in_err-expect
+returns-in_err-expect c =
+    let e = c.in_err-expect.ensures in
+    let p = err_from_is_err_and c.from_residual-in_err-expect.result c.from_residual-in_err-expect.ensures.1 in
+    rw (p.1, p.2, e.0) (no_semicolon _ c.if-text-gt256.false _ c.in_ok-body.ensures _ _ _ c.in_ok-part.ensures e.1)
 
 pub returns-in_err-order : goal.returns-in_err-order
 returns-in_err-order c =
-    let e = c.if-not-sees.ensures in
+    let e = c.in_ok-expect.ensures in
     let p = err_from_is_err_and c.from_residual-in_err-order.result c.from_residual-in_err-order.ensures.1 in
     rw (p.1, p.2) (bad_order _ c.if-text-gt256.false _ c.in_ok-body.ensures _ _ _ c.in_ok-part.ensures e.0 e.1 _ c.in_err-order.ensures)
 
 pub returns : goal.returns
 returns c =
-    let e = c.if-not-sees.ensures in
-    a_line _ c.if-text-gt256.false _ c.in_ok-body.ensures _ _ _ c.in_ok-part.ensures e.0 e.1 refl c.in_ok-order.ensures
+    let e = c.in_ok-expect.ensures in
+    a_line _ c.if-text-gt256.false _ c.in_ok-body.ensures _ _ _ c.in_ok-part.ensures e.0 e.1 c.new-arena.ensures c.in_ok-order.ensures

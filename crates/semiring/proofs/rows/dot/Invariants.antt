@@ -1,9 +1,9 @@
-use Rattle.std.proofs.Common.{◌≡◌, map, drop}
+use Rattle.std.proofs.Common.{◌≡◌, map, drop, length}
 use Rattle.model.specs.Semirings.{total, zipped}
 use Rattle.semiring.proofs.rows.dot.Given as goal
 
-abbrev pub invariant-loop-i : goal.invariant-loop-i
-invariant-loop-i g l =
+abbrev pub invariant-loop-x : goal.invariant-loop-x
+invariant-loop-x g l =
     let k = g.V.Semiring in
     let products = zipped k.algebra.product (map k.reads l.a) (map k.reads l.b) in
-    k.algebra.sum l.sum (total k.algebra (drop l.i products)) ≡ total k.algebra products
+    k.algebra.sum l.sum (total k.algebra (drop (length l.yielded) products)) ≡ total k.algebra products

@@ -1,47 +1,45 @@
-use Rattle.std.proofs.Common.{◌+◌, ◌++◌, map, length, get_or, take, drop, sym, refl, ap, ◌∙◌, ap₂, arith}
-use Rattle.std.proofs.lemmas.List.{length-map, length-take-le}
+use Rattle.std.proofs.Common.{◌+◌, ◌<◌, ◌++◌, List, map, length, drop, sym, refl, ap, ◌∙◌, arith}
 use Rattle.std.proofs.lemmas.Bool.{not-true, not-false}
-use Rattle.plans.specs.Rows.{rows_of}
-use Rattle.plans.proofs.Entries.{row_fits}
-use Rattle.tensors.specs.Fillings.{picked}
+use Rattle.arrayvec.specs.ArrayVec.{array_vec_len}
+use Rattle.formats.specs.declared.entry.Entry.{Entry}
+use Rattle.plans.specs.Rows.{rows_in}
+use Rattle.tensors.specs.Fillings.{picked, pair_of}
 use Rattle.tensors.proofs.Picks.{pick_more, pick_again, pick_all}
 use Rattle.tensors.proofs.lists.pick.Goals as goal
 use Rattle.tensors.proofs.lists.pick.Goals.{then-ends_front, else-ends_front}
 
-pub coordinate-requires : goal.coordinate-requires
-coordinate-requires c = record { within = omega (arith, row_fits c.args.rank (length c.args.owners.now) c.loop-k.k (omega arith)); deep = c.requires.deep }
+pub loop-k-init : goal.loop-k-init
+loop-k-init c = (
+  omega (arith, ap length c.new-entries.ensures),
+  ap (λ (z : List Entry). map pair_of z ++ picked c.args.depth c.args.owners.now (rows_in c.args.rows.now)) c.new-entries.ensures,
+)
+
+pub push-requires : goal.push-requires
+push-requires c = (omega arith, (let z : array_vec_len c.loop-k.entries < 4096 = omega (arith, c.loop-k.invariant.0, c.requires.few) in z))
 
 pub loop-k-preserved : goal.loop-k-preserved
 loop-k-preserved c =
+    let r = c.args.rows.now in
+    let os = c.args.owners.now in
+    let k = c.loop-k.k in
+    let all = picked c.args.depth os (rows_in r) in
+    let rest = picked c.args.depth (drop (k + 1) os) (drop (k + 1) (rows_in r)) in
     elim c.if-ends_front.branch [
       | then-ends_front w ↦ (
-        omega (arith, w.n-is),
-        pick_more c.args.depth c.args.rank (length c.args.owners.now) c.args.coordinates.now c.args.owners.now refl (λ x. x.0) c.loop-k.firsts c.loop-k.n c.loop-k.k (omega arith) c.loop-k.invariant.1
-            (get_or c.args.owners.now c.loop-k.k 0) refl (omega arith) (not-true _ (sym c.ends_front.ensures ∙ w.if-ends_front.true))
-            ∙ sym (ap₂ (λ m xs. take m xs ++ map (λ x. x.0) (picked c.args.depth (drop (c.loop-k.k + 1) c.args.owners.now) (drop (c.loop-k.k + 1) (rows_of c.args.rank (length c.args.owners.now) c.args.coordinates.now)))) w.n-is w.firsts-is),
-        pick_more c.args.depth c.args.rank (length c.args.owners.now) c.args.coordinates.now c.args.owners.now refl (λ x. x.1) c.loop-k.seconds c.loop-k.n c.loop-k.k (omega arith) c.loop-k.invariant.2
-            w.coordinate.result w.coordinate.ensures (omega arith) (not-true _ (sym c.ends_front.ensures ∙ w.if-ends_front.true))
-            ∙ sym (ap₂ (λ m xs. take m xs ++ map (λ x. x.1) (picked c.args.depth (drop (c.loop-k.k + 1) c.args.owners.now) (drop (c.loop-k.k + 1) (rows_of c.args.rank (length c.args.owners.now) c.args.coordinates.now)))) w.n-is w.seconds-is),
+        omega (arith, ap array_vec_len w.entries-is, w.push.ensures.len, c.loop-k.invariant.0),
+        ap (λ z. map pair_of z.items ++ rest) w.entries-is ∙ ap (λ (z : List Entry). map pair_of z ++ rest) w.push.ensures.items
+            ∙ pick_more c.args.depth r.rank r.count r.coordinates.now os (sym c.requires.paired) all c.loop-k.entries.items k (omega arith) c.loop-k.invariant.1
+            _ refl w.coordinate.ensures (not-true _ (sym c.ends_front.ensures ∙ w.if-ends_front.true)),
       )
       | else-ends_front w ↦ (
-        omega (arith, w.n-is),
-        pick_again c.args.depth c.args.rank (length c.args.owners.now) c.args.coordinates.now c.args.owners.now refl (λ x. x.0) c.loop-k.firsts c.loop-k.n c.loop-k.k (omega arith) c.loop-k.invariant.1
-            (not-false _ (sym c.ends_front.ensures ∙ w.if-ends_front.false))
-            ∙ sym (ap₂ (λ m xs. take m xs ++ map (λ x. x.0) (picked c.args.depth (drop (c.loop-k.k + 1) c.args.owners.now) (drop (c.loop-k.k + 1) (rows_of c.args.rank (length c.args.owners.now) c.args.coordinates.now)))) w.n-is w.firsts-is),
-        pick_again c.args.depth c.args.rank (length c.args.owners.now) c.args.coordinates.now c.args.owners.now refl (λ x. x.1) c.loop-k.seconds c.loop-k.n c.loop-k.k (omega arith) c.loop-k.invariant.2
-            (not-false _ (sym c.ends_front.ensures ∙ w.if-ends_front.false))
-            ∙ sym (ap₂ (λ m xs. take m xs ++ map (λ x. x.1) (picked c.args.depth (drop (c.loop-k.k + 1) c.args.owners.now) (drop (c.loop-k.k + 1) (rows_of c.args.rank (length c.args.owners.now) c.args.coordinates.now)))) w.n-is w.seconds-is),
+        omega (arith, ap array_vec_len w.entries-is, c.loop-k.invariant.0),
+        ap (λ z. map pair_of z.items ++ rest) w.entries-is
+            ∙ pick_again c.args.depth r.rank r.count r.coordinates.now os (sym c.requires.paired) all c.loop-k.entries.items k (omega arith) c.loop-k.invariant.1
+            (not-false _ (sym c.ends_front.ensures ∙ w.if-ends_front.false)),
       )
     ]
 
 pub returns : goal.returns
 returns c =
-    let css = rows_of c.args.rank (length c.args.owners.now) c.args.coordinates.now in
-    let first = pick_all c.args.depth c.args.owners.now css (λ x. x.0) c.loop-k.firsts c.loop-k.n c.loop-k.k (omega arith) c.loop-k.invariant.1 in
-    let second = pick_all c.args.depth c.args.owners.now css (λ x. x.1) c.loop-k.seconds c.loop-k.n c.loop-k.k (omega arith) c.loop-k.invariant.2 in
-    record {
-      few = omega (arith, c.loop-k.invariant.0);
-      count = sym (length-take-le c.loop-k.n c.loop-k.firsts (omega (arith, c.loop-k.invariant.0))) ∙ ap length first ∙ length-map (picked c.args.depth c.args.owners.now css) (λ x. x.0);
-      owned = first;
-      placed = second;
-    }
+    pick_all c.args.depth c.args.owners.now (rows_in c.args.rows.now) (picked c.args.depth c.args.owners.now (rows_in c.args.rows.now))
+    c.loop-k.entries.items c.loop-k.k (omega arith) c.loop-k.invariant.1

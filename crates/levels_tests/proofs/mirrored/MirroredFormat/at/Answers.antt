@@ -1,23 +1,19 @@
-use Rattle.std.proofs.Common.{ℕ, ◌+◌, ◌-◌, ◌*◌, Some, ap, ◌∙◌, ⊎_elim, mul_comm, arith}
-use Rattle.std.proofs.lemmas.Nat.{mul-add-lt}
-use Rattle.formats.specs.Rows.{rows_at, rows_at_past, rows_at_none}
+use Rattle.std.proofs.Common.{◌≡◌, ◌+◌, ◌-◌, ◌*◌, ◌∙◌, mul_comm, rules}
+use Rattle.std.specs.Option.{IfSome}
+use Rattle.std.proofs.lemmas.Option.{IfSome_then}
+use Rattle.formats.specs.Rows.{rows_at_tested, rows_at_no_fiber}
 use Rattle.levels_tests.proofs.mirrored.MirroredFormat.at.Goals as goal
+use Rattle.levels_tests.proofs.mirrored.MirroredFormat.at.Goals.{then-p-size, else-p-size}
 
-pub returns-then-n-size : goal.returns-then-n-size
-returns-then-n-size c =
+pub returns : goal.returns
+returns c =
     let e = c.args.size.extent in
     let f = c.args.size.fibers in
-    ap (λ (x : ℕ). Some (c.args.n, x - (c.args.p * e + c.args.n) - 1)) (mul_comm e f)
-    ∙ rows_at f (λ _. e) (λ p k. (k, f * e - (p * e + k) - 1)) c.args.p c.args.n c.if-p-size.true c.if-n-size.true
-
-pub returns-else-p-size : goal.returns-else-p-size
-returns-else-p-size c =
-    ⊎_elim (λ h. rows_at_past _ (λ _. c.args.size.extent) _ _ _ h.0 h.1) (rows_at_none _ _ _ _ _) c.else-p-size.either
-
-pub overflow_sub-result : goal.overflow_sub-result
-overflow_sub-result c =
-    omega (arith, mul-add-lt c.args.p c.args.size.extent c.args.n c.args.size.fibers c.if-p-size.true c.if-n-size.true)
-
-pub overflow_sub-result-then-n-size : goal.overflow_sub-result-then-n-size
-overflow_sub-result-then-n-size c =
-    omega (arith, mul-add-lt c.args.p c.args.size.extent c.args.n c.args.size.fibers c.if-p-size.true c.if-n-size.true)
+    let code : IfSome c.then.result (λ x. x ≡ (c.args.n, e * f - (c.args.p * e + c.args.n) - 1)) = IfSome_then c.then.result c.then.ensures.some (λ x h. search rules) in
+    let is : IfSome c.then.result (λ x. x ≡ (c.args.n, f * e - (c.args.p * e + c.args.n) - 1)) = rw (mul_comm f e) code in
+    elim c.if-p-size.branch [
+      | then-p-size w ↦
+          rows_at_tested f (λ _. e) (λ p k. (k, f * e - (p * e + k) - 1)) c.args.p c.args.n c.then.result w.if-p-size.true (c.then.ensures.variant ∙ w.then-is) is
+      | else-p-size w ↦
+          rows_at_no_fiber f (λ _. e) (λ p k. (k, f * e - (p * e + k) - 1)) c.args.p c.args.n c.then.result w.if-p-size.false (c.then.ensures.variant ∙ w.then-is)
+    ]

@@ -1,8 +1,5 @@
-use Rattle.formats.specs.Rows.{rows_count, rows_count_none}
+use Rattle.formats.specs.Rows.{rows_count_tested}
 use Rattle.levels_tests.proofs.mirrored.MirroredFormat.count.Goals as goal
 
-pub returns-then-p-size : goal.returns-then-p-size
-returns-then-p-size c = rows_count _ (λ _. c.args.size.extent) _ _ c.if-p-size.true
-
-pub returns-else-p-size : goal.returns-else-p-size
-returns-else-p-size c = rows_count_none _ _ _ _ c.if-p-size.false
+pub returns : goal.returns
+returns c = rows_count_tested c.args.size.fibers (λ _. c.args.size.extent) _ c.args.p _ c.then_some.ensures

@@ -18,9 +18,9 @@ invariant_of-result g c =
 pub invariant_of-result-2 : goal.invariant_of-result-2
 invariant_of-result-2 g c =
     let h : Right (sizes_given c.args.sizes) (lengths c.args.areas) = right (sizes_given c.args.sizes) (lengths c.args.areas) (sym c.if-are_wrong.ensures) in
-    record { few_words = h.stream_words.1; few_values = h.stream_values.1; few_places = h.places.1 }
+    record { few_words = h.stream_words.1; few_values = h.stream_values.1; words_fit = h.words_area; values_fit = h.values_area }
 
 pub invariant_of-result-3 : goal.invariant_of-result-3
 invariant_of-result-3 g c =
     let h : Right (sizes_given c.args.sizes) (lengths c.args.areas) = right (sizes_given c.args.sizes) (lengths c.args.areas) (sym c.if-are_wrong.ensures) in
-    record { words_fit = h.words_area; values_fit = h.values_area; keys_fit = h.keys_area; sums_fit = h.sums_area }
+    record { few_places = h.places.1; keys_fit = h.keys_area; sums_fit = h.sums_area }

@@ -1,0 +1,14 @@
+-- Nodes stand behind their parts. Assumes nothing.
+use Rattle.std.specs.Prelude.{◌≡◌, ℕ, ◌<◌, List, length, slice_index_or}
+use Rattle.reader.specs.declared.node.Node.{Node}
+use Rattle.reader.specs.declared.node.Node.TheVariants.{Access, Group, Times, Plus}
+
+abbrev pub node : List Node → ℕ → Node
+node ns i = slice_index_or ns i (Access 0 0 (record { place = 0; count = 0 }))
+
+-- the parts of a node stand before i
+abbrev pub Before : Node → ℕ → Type 0
+Before x i = ((p j : ℕ) → x ≡ Group p j → j < i) × ((j k : ℕ) → x ≡ Times j k → (j < i) × (k < i)) × ((p j k : ℕ) → x ≡ Plus p j k → (j < i) × (k < i))
+
+abbrev pub PartsFirst : List Node → Type 0
+PartsFirst ns = (i : ℕ) → i < length ns → Before (node ns i) i

@@ -1,0 +1,43 @@
+// The nodes of a right side.
+ghost use Rattle.std.specs.Prelude.{◌≡◌};
+ghost use Rattle.reader.specs.declared.node.Node.TheVariants.{Access};
+
+use crate::vars::VarList;
+
+#[derive(Clone, Copy)]
+pub enum Node {
+    // The place of its letter in the line, the slot that it names, and its variables.
+    Access {
+        place: usize,
+        slot: usize,
+        vars: VarList,
+    },
+    // The place of its bracket.
+    Group {
+        place: usize,
+        inner: usize,
+    },
+    Times {
+        left: usize,
+        right: usize,
+    },
+    // The place of its sign.
+    Plus {
+        place: usize,
+        left: usize,
+        right: usize,
+    },
+}
+
+// What stands where there is no node.
+impl Default for Node {
+    ghost is_default = { λ x. x ≡ Access 0 0 (record { place = 0; count = 0 }) };
+
+    fn default() -> Node {
+        Node::Access {
+            place: 0,
+            slot: 0,
+            vars: VarList { place: 0, count: 0 },
+        }
+    }
+}
