@@ -2,7 +2,7 @@
 use Rattle.std.specs.Prelude.{List, map, Ok, Err, Result}
 use Rattle.model.specs.Calls as model
 use Rattle.model.specs.Semirings.{zipped}
-use Rattle.plans.specs.Requests.{request}
+use Rattle.plans.specs.Requests.{asked}
 use Rattle.rack_state.specs.Answered.{entry_listed}
 use Rattle.rack_state.specs.Faults.{fault_of}
 use Rattle.rack.specs.Courses.{Events}
@@ -13,7 +13,7 @@ use Rattle.rack.specs.declared.events.Done.TheVariants.{Stored, Compiled, Steppe
 use Rattle.rack_state.specs.declared.calls.Fault.{Fault}
 
 abbrev pub call_of : {P V : Type 0} → (P → V) → Call P → model.Call V
-call_of reads (Store slot rank es fs cs vs) = model.STORE (request slot rank es.now fs.now cs.now (map reads vs.now))
+call_of reads (Store r) = model.STORE (asked reads r)
 call_of reads (Compile line) = model.COMPILE line.now
 call_of reads Step = model.STEP
 call_of reads (Read n) = model.READ n

@@ -1,25 +1,13 @@
 // The calls of a rack as values, and their answers.
 use rack_state::{Entry, Fault};
-use semiring::Semiring;
+use tensors::StoreRequest;
 
 #[derive(Clone, Copy)]
 pub enum Call<'c, P> {
-    // the coordinates stand entry after entry
-    Store {
-        slot: usize,
-        rank: usize,
-        extents: &'c [u32],
-        formats: &'c [u8],
-        coordinates: &'c [u32],
-        values: &'c [P],
-    },
-    Compile {
-        line: &'c [u8],
-    },
+    Store(StoreRequest<'c, P>),
+    Compile { line: &'c [u8] },
     Step,
-    Read {
-        n: usize,
-    },
+    Read { n: usize },
     Drop,
 }
 

@@ -9,3 +9,4 @@ pub use events::{Answer, Call, Done};
 pub use rack::{InUse, Rack};
 pub use rack_state::{Areas, Entry, Fault, RackSizes};
 pub use runs::{compare, run};
+pub use tensors::StoreRequest;

@@ -7,9 +7,11 @@ ghost use Rattle.rack_state.specs.declared.calls.Fault.TheVariants.{Store, Line}
 use lines::LineFault;
 use plans::StoreFault;
 use results::ResultKey;
+use std::error::Error;
+use std::fmt;
 
 // Why a call is refused.
-#[derive(Clone, Copy)]
+#[derive(Clone, Copy, PartialEq, Eq, Debug)]
 pub enum Fault {
     // of STORE and COMPILE: a graph is loaded and not drained
     Busy,
@@ -34,6 +36,23 @@ pub struct Entry<V> {
     pub rank: usize,
     pub value: V,
 }
+
+impl fmt::Display for Fault {
+    fn fmt<W: fmt::Write>(&self, f: &mut fmt::Formatter<W>) -> fmt::Result {
+        match self {
+            Fault::Busy => f.write_str("a graph is under way"),
+            Fault::Store(fault) => write!(f, "{fault}"),
+            Fault::Line(fault) => write!(f, "{fault}"),
+            Fault::NoGraph => f.write_str("no graph is loaded"),
+            Fault::Drained => f.write_str("all commands are carried out"),
+            Fault::Full(command) => write!(f, "no room for command {command}"),
+            Fault::NotDrained => f.write_str("not all commands are carried out"),
+            Fault::Sizes => f.write_str("a size out of range, or an area too short"),
+        }
+    }
+}
+
+impl Error for Fault {}
 
 impl From<StoreFault> for Fault {
     ghost from_gives = { λ f e. e ≡ Store f };

@@ -7,3 +7,4 @@ pub mod Raises
 pub mod Scatters
 pub mod Holdings
 pub mod Reaches
+pub mod Storeds

@@ -15,6 +15,7 @@ ghost use Rattle.tensors.specs.Fillings.{Owners, Added, Raised};
 ghost use Rattle.tensors.specs.Planned.{Measured};
 
 use crate::lists::pick;
+use crate::stored::stored;
 use crate::tensor_plan::TensorPlan;
 use formats::Entry;
 use levels::{Formats, StoredLevel};
@@ -65,12 +66,12 @@ fn add_level<S: Formats>(
     let entries = pick(&plan.rows, depth, owners);
     build::<S>(level, &entries, &mut words[start..]);
     let need = S::need(level.format, level.size);
-    let stored = StoredLevel {
-        number: level.format,
-        size: level.size,
-        words: &words[start..start + need],
-    };
-    descend::<S>(stored, &plan.rows, depth, owners);
+    descend::<S>(
+        stored(level, &words[start..start + need]),
+        &plan.rows,
+        depth,
+        owners,
+    );
 }
 
 // Builds all levels, and leaves the value position of each entry where its owner was.

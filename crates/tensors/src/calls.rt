@@ -1,7 +1,7 @@
 // STORE, as a rack calls it.
-ghost use Rattle.std.specs.Prelude.{◌≡◌, map};
+ghost use Rattle.std.specs.Prelude.{◌≡◌};
 ghost use Rattle.slots.specs.Areas.{state_of};
-ghost use Rattle.plans.specs.Requests.{request, slot_sizes};
+ghost use Rattle.plans.specs.Requests.{asked, slot_sizes};
 ghost use Rattle.plans.specs.Rooms.{rules_of};
 ghost use Rattle.tensors.specs.Lookups.{Looked};
 ghost use Rattle.tensors.specs.Stored.{Stored};
@@ -13,19 +13,13 @@ use plans::{StoreFault, StoreRequest};
 use semiring::Semiring;
 use slots::SlotAreas;
 
-// Stores a tensor in a slot and answers the value positions that it uses, or refuses and changes nothing. The coordinates stand entry after
-// entry.
+// Stores a tensor in a slot and answers the value positions that it uses, or refuses and changes nothing.
 pub fn store<V: Semiring, S: Formats>(
     areas: &mut SlotAreas<V::Plain>,
-    slot: usize,
-    rank: usize,
-    extents: &[u32],
-    formats: &[u8],
-    coordinates: &[u32],
-    entries: &[V::Plain],
+    request: &StoreRequest<'_, V::Plain>,
 ) -> Result<usize, StoreFault>
     ensures room { areas.new.room ≡ areas.old.room }
-    ensures stored { Stored (rules_of S.wants S.births) S.meaning S.kept V.algebra.zero V.reads (slot_sizes areas.old.room.level_words areas.old.room.positions) (request slot rank extents.now formats.now coordinates.now (map V.reads entries.now)) (state_of areas.old) result (state_of areas.new) }
+    ensures stored { Stored (rules_of S.wants S.births) S.meaning S.kept V.algebra.zero V.reads (slot_sizes areas.old.room.level_words areas.old.room.positions) (asked V.reads request.now) (state_of areas.old) result (state_of areas.new) }
 {
     let room = areas.room;
     store_in::<V, S>(
@@ -33,14 +27,7 @@ pub fn store<V: Semiring, S: Formats>(
         &mut areas.words,
         &mut areas.values,
         room,
-        &StoreRequest {
-            slot,
-            rank,
-            extents,
-            formats,
-            coordinates,
-            entries,
-        },
+        request,
     )
 }
 
@@ -57,12 +44,5 @@ pub fn lookup<V: Semiring, S: Formats>(
     if coordinates.len() != tensor.rank {
         return None;
     }
-    Some(held_value::<V, S>(
-        areas.room,
-        number,
-        tensor,
-        &areas.words,
-        &areas.values,
-        coordinates,
-    ))
+    Some(held_value::<V, S>(areas, number, tensor, coordinates))
 }

@@ -6,8 +6,10 @@ mod calls;
 mod lists;
 mod reading;
 mod slot_store;
+mod stored;
 mod storing;
 mod tensor_plan;
 mod values;
 
 pub use calls::{lookup, store};
+pub use plans::StoreRequest;

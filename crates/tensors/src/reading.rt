@@ -1,5 +1,5 @@
 // Values read back through the levels.
-ghost use Rattle.std.specs.Prelude.{◌≡◌, ℕ, ◌*◌, ◌≤◌, map, length, take, Some};
+ghost use Rattle.std.specs.Prelude.{◌≡◌, ℕ, map, length, take, Some, vec_items};
 ghost use Rattle.model.specs.Fibers.{Ascends, coords, fiber, fiber_at, child};
 ghost use Rattle.model.specs.Tensors.{reached, value_at as held_at, held_value as value_held};
 ghost use Rattle.levels.specs.Stored.{level_of};
@@ -7,9 +7,10 @@ ghost use Rattle.slots.specs.Layouts.{part, levels_on, Kept, storage};
 ghost use Rattle.slots.specs.Records.{sizes};
 ghost use Rattle.plans.specs.Rooms.{rules_of};
 
+use crate::stored::stored;
 use levels::{Formats, StoredLevel};
 use semiring::Semiring;
-use slots::{SlotNumber, SlotSizes, TensorRecord};
+use slots::{SlotAreas, SlotNumber, TensorRecord};
 
 // The child of what a reference, or none, leads to.
 fn step<S: Formats>(level: StoredLevel<'_>, reference: Option<u32>, c: u32) -> Option<u32>
@@ -28,12 +29,7 @@ fn reach<S: Formats>(tensor: TensorRecord, words: &[u32], coordinates: &[u32]) -
     for (level, coordinate) in tensor.levels[..tensor.rank].iter().zip(coordinates) {
         let need = S::need(level.format, level.size);
         let end = start.saturating_add(need).min(words.len());
-        let stored = StoredLevel {
-            number: level.format,
-            size: level.size,
-            words: &words[start..end],
-        };
-        reference = step::<S>(stored, reference, *coordinate);
+        reference = step::<S>(stored(*level, &words[start..end]), reference, *coordinate);
         start = end;
     }
     reference
@@ -43,36 +39,34 @@ fn reach<S: Formats>(tensor: TensorRecord, words: &[u32], coordinates: &[u32]) -
 fn value_at<V: Semiring>(reference: Option<u32>, used: usize, values: &[V::Plain]) -> V
     ensures { result ≡ held_at V.algebra.zero (map V.reads (take used values.now)) reference }
 {
-    let Some(p) = reference else {
-        return V::zero();
-    };
-    let at = p as usize;
-    if at >= used || at >= values.len() {
-        return V::zero();
+    let held = &values[..used.min(values.len())];
+    match reference.and_then(|p| held.get(p as usize)) {
+        Some(value) => V::read(*value),
+        None => V::zero(),
     }
-    V::read(values[at])
 }
 
 // The value that a slot's parts of the areas hold at coordinates.
 pub(crate) fn held_value<V: Semiring, S: Formats>(
-    room: SlotSizes,
+    areas: &SlotAreas<V::Plain>,
     slot: SlotNumber,
     tensor: TensorRecord,
-    words: &[u32],
-    values: &[V::Plain],
     coordinates: &[u32],
 ) -> V
-    requires words_area { 8 * room.level_words ≤ length words.now }
-    requires values_area { 8 * room.positions ≤ length values.now }
     requires rank { length coordinates.now ≡ tensor.rank }
-    ensures { Kept (rules_of S.wants S.births) S.kept (sizes tensor) (part slot.number room.level_words words.now) → result ≡ value_held V.algebra.zero (storage (rules_of S.wants S.births) S.meaning V.reads (sizes tensor) tensor.positions (part slot.number room.level_words words.now) (part slot.number room.positions values.now)) coordinates.now }
+    ensures { Kept (rules_of S.wants S.births) S.kept (sizes tensor) (part slot.number areas.now.room.level_words (vec_items areas.now.words)) → result ≡ value_held V.algebra.zero (storage (rules_of S.wants S.births) S.meaning V.reads (sizes tensor) tensor.positions (part slot.number areas.now.room.level_words (vec_items areas.now.words)) (part slot.number areas.now.room.positions (vec_items areas.now.values))) coordinates.now }
 {
+    let room = areas.room;
     let from = room.first_word(slot);
-    let reference = reach::<S>(tensor, &words[from..from + room.level_words], coordinates);
+    let reference = reach::<S>(
+        tensor,
+        &areas.words[from..from + room.level_words],
+        coordinates,
+    );
     let at = room.first_position(slot);
     value_at::<V>(
         reference,
         tensor.positions,
-        &values[at..at + room.positions],
+        &areas.values[at..at + room.positions],
     )
 }

@@ -10,7 +10,7 @@ mod tests {
     use slots::{SlotAreas, SlotSizes};
     use std::alloc::Global;
     use std::test::Fail;
-    use tensors::{lookup, store};
+    use tensors::{StoreRequest, lookup, store};
 
     // Areas full of sevens: eight slots of 6 positions and 8 level words.
     fn sevens(heap: Global) -> Result<SlotAreas<u32>, Fail> {
@@ -33,17 +33,17 @@ mod tests {
         extents: &[u32],
         formats: &[u8],
         coordinates: &[u32],
-        values: &[u32],
+        entries: &[u32],
     ) -> Result<usize, StoreFault> {
-        store::<Count, Two<Dense, Compressed>>(
-            areas,
+        let request = StoreRequest {
             slot,
-            extents.len(),
+            rank: extents.len(),
             extents,
             formats,
             coordinates,
-            values,
-        )
+            entries,
+        };
+        store::<Count, Two<Dense, Compressed>>(areas, &request)
     }
 
     fn at(areas: &SlotAreas<u32>, slot: usize, coordinates: &[u32]) -> Result<u32, Fail> {

@@ -1,7 +1,7 @@
 // Making a rack, and its five calls. None asks anything of its caller, and none allocates.
-ghost use Rattle.std.specs.Prelude.{◌≡◌, map, OnOk};
+ghost use Rattle.std.specs.Prelude.{◌≡◌, OnOk};
 ghost use Rattle.model.specs.Calls.{STORE, COMPILE, STEP, READ, DROP, stored, compiled, stepped, dropped};
-ghost use Rattle.plans.specs.Requests.{request};
+ghost use Rattle.plans.specs.Requests.{asked};
 ghost use Rattle.plans.specs.Rooms.{rules_of};
 ghost use Rattle.rack_state.specs.Does.{Does};
 ghost use Rattle.rack_state.specs.Making.{Freed};
@@ -16,6 +16,7 @@ use rack_slots::store;
 use rack_state::{Areas, Entry, Fault, RackSizes, RackState};
 use rack_steps::step;
 use semiring::Semiring;
+use tensors::StoreRequest;
 
 impl<V: Semiring, S: Formats> Rack<V, S> {
     // An empty rack over the areas, as they are. A size out of range or an area too short is refused, and the areas are handed back.
@@ -44,27 +45,11 @@ impl<V: Semiring, S: Formats> Rack<V, S> {
         }
     }
 
-    // STORE: puts a tensor into a slot, and answers the value positions used. The coordinates stand entry after entry.
-    pub fn store(
-        &mut self,
-        slot: usize,
-        rank: usize,
-        extents: &[u32],
-        formats: &[u8],
-        coordinates: &[u32],
-        values: &[V::Plain],
-    ) -> Result<usize, Fault>
-        ensures { Does V.algebra V.reads (rules_of S.wants S.births) S.meaning (STORE (request slot rank extents.now formats.now coordinates.now (map V.reads values.now))) (seen self.old) (answered stored result) (seen self.new) }
+    // STORE: puts a tensor into a slot, and answers the value positions used.
+    pub fn store(&mut self, request: &StoreRequest<'_, V::Plain>) -> Result<usize, Fault>
+        ensures { Does V.algebra V.reads (rules_of S.wants S.births) S.meaning (STORE (asked V.reads request.now)) (seen self.old) (answered stored result) (seen self.new) }
     {
-        store(
-            &mut self.state,
-            slot,
-            rank,
-            extents,
-            formats,
-            coordinates,
-            values,
-        )
+        store(&mut self.state, request)
     }
 
     // COMPILE: reads a line, keeps its graph, and answers its number of commands.

@@ -16,17 +16,7 @@ impl<V: Semiring, S: Formats> Rack<V, S> {
         ensures { Does V.algebra V.reads (rules_of S.wants S.births) S.meaning (call_of V.reads call.entry) (seen self.old) (answer_of result) (seen self.new) }
     {
         match call {
-            Call::Store {
-                slot,
-                rank,
-                extents,
-                formats,
-                coordinates,
-                values,
-            } => {
-                let positions = self.store(slot, rank, extents, formats, coordinates, values)?;
-                Ok(Done::Stored(positions))
-            }
+            Call::Store(request) => Ok(Done::Stored(self.store(&request)?)),
             Call::Compile { line } => Ok(Done::Compiled(self.compile(line)?)),
             Call::Step => Ok(Done::Stepped(self.step()?)),
             Call::Read { n } => Ok(Done::Listed(self.read(n)?)),

@@ -1,7 +1,6 @@
-use Rattle.std.proofs.Common.{map}
 use Rattle.std.proofs.lemmas.Result.{err_from_is_err_and}
 use Rattle.model.specs.Calls.{STORE, stored, refused}
-use Rattle.plans.specs.Requests.{request, fault_of}
+use Rattle.plans.specs.Requests.{asked, fault_of}
 use Rattle.plans.specs.Rooms.{rules_of}
 use Rattle.slots.specs.Areas.{state_of}
 use Rattle.rack_state.specs.Snapshots.{view}
@@ -18,7 +17,7 @@ pub returns : goal.returns
 returns g c =
     let s = view c.args.rack.now in
     let rules = rules_of g.S.Formats.wants g.S.Formats.births in
-    let q = request c.args.slot c.args.rank c.args.extents.now c.args.formats.now c.args.coordinates.now (map g.V.Semiring.reads c.args.entries.now) in
+    let q = asked g.V.Semiring.reads c.args.request.now in
     let e = c.in_ok-used.ensures in
     in_same_room g.V.Semiring.algebra g.V.Semiring.reads rules g.S.Formats.meaning (STORE q) s (stored c.in_ok-used.used) (state_of c.store.new.areas) c.args.rack.now.tensors.room
     c.store.new.areas.room e.room
@@ -29,7 +28,7 @@ pub returns-in_err-used : goal.returns-in_err-used
 returns-in_err-used g c =
     let s = view c.args.rack.now in
     let rules = rules_of g.S.Formats.wants g.S.Formats.births in
-    let q = request c.args.slot c.args.rank c.args.extents.now c.args.formats.now c.args.coordinates.now (map g.V.Semiring.reads c.args.entries.now) in
+    let q = asked g.V.Semiring.reads c.args.request.now in
     let e = c.in_err-used.ensures in
     let p = err_from_is_err_and c.from_residual.result c.from_residual.ensures.1 in
     rw (p.1, p.2) (in_same_room g.V.Semiring.algebra g.V.Semiring.reads rules g.S.Formats.meaning (STORE q) s (refused (fault_of c.in_err-used.field-0.0)) (state_of c.store.new.areas)

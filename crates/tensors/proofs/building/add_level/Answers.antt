@@ -10,6 +10,7 @@ use Rattle.plans.proofs.Entries.{rows_at, rows_long, ordered_checked}
 use Rattle.plans.proofs.Numbers.{row_long}
 use Rattle.tensors.proofs.Picks.{picked_listed, picked_owners, picked_coordinates}
 use Rattle.tensors.proofs.Additions.{after_front, after_rest, after_back, lawful_ascends, row_held, listed_by}
+use Rattle.tensors.proofs.Storeds.{stored_means}
 use Rattle.tensors.proofs.building.add_level.Goals as goal
 
 pub build-requires-clause-lists : goal.build-requires-clause-lists
@@ -43,7 +44,8 @@ descend-requires-clause-held g c =
     let e : take (start + c.need-need.result - start) (drop start (put_mid start (length ws - start) ws ys)) ≡ take want ys =
     ap₂ take n (after_rest start ws ys (omega (arith, c.requires.room)) size) in
     let asc = lawful_ascends _ _ _ (M (take want ys)) (g.met.S.Formats.lawful c.args.level.format s (take want ys) b.sound) in
-    subst (λ x. (k : ℕ) → k < length os → (j : ℕ) × (child (fiber (M x) (get_or os k 0)) (get_or (row_in r k) d 0) ≡ Some j)) (sym e) (λ k h.
+    let means = stored_means g.S.Formats.meaning c.stored.result c.args.level.format c.args.level.size _ c.stored.ensures in
+    subst (λ y. (k : ℕ) → k < length os → (j : ℕ) × (child (fiber y (get_or os k 0)) (get_or (row_in r k) d 0) ≡ Some j)) (sym (means ∙ ap M e)) (λ k h.
     let all = rows_long r.rank r.count r.coordinates.now in
     let held = row_held d c.args.level.size.fibers os css c.requires.owned
     (λ m i. omega (arith, c.requires.deep, row_long es (get_or css m []) (All-get_or (λ cs. outside es cs ≡ false) css m [] i o.within)))
@@ -67,6 +69,7 @@ returns g c =
     let size : length ys ≡ length ws - start = c.build.auto.words ∙ ap length (take_rest ws start) ∙ length-drop start ws in
     let rest = after_rest start ws ys within size in
     let deeper = c.descend.new.owners in
+    let means = stored_means g.S.Formats.meaning c.stored.result c.args.level.format c.args.level.size _ c.stored.ensures in
     record {
       front = after_front start ws ys within size;
       back = after_back start ws ys within size want (omega (arith, c.requires.room)) c.build.ensures.rest;
@@ -74,5 +77,5 @@ returns g c =
       led = λ k h.
           let k-in : k < length os = omega (arith, rows_long r.rank r.count r.coordinates.now, c.requires.paired) in
           ap (λ x. child (fiber (M (take want (drop start (put_mid start (length ws - start) ws ys)))) (get_or os k 0)) (get_or x d 0)) (rows_at r.rank r.count r.coordinates.now k (omega (arith, c.requires.paired)))
-          ∙ subst (λ m. child (fiber (M (take m (drop start (put_mid start (length ws - start) ws ys)))) (get_or os k 0)) (get_or (row_in r k) d 0) ≡ Some (get_or deeper k 0)) n (c.descend.ensures k k-in);
+          ∙ subst (λ y. child (fiber y (get_or os k 0)) (get_or (row_in r k) d 0) ≡ Some (get_or deeper k 0)) (means ∙ ap (λ m. M (take m (drop start (put_mid start (length ws - start) ws ys)))) n) (c.descend.ensures k k-in);
     }

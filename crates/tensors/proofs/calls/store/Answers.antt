@@ -1,9 +1,9 @@
-use Rattle.std.proofs.Common.{◌≡◌, ℕ, List, map, length, vec_items, sym, refl, ap, ◌∙◌, subst}
+use Rattle.std.proofs.Common.{◌≡◌, ℕ, List, length, vec_items, sym, refl, ap, ◌∙◌, subst}
 use Rattle.std.specs.Vec.{with_items}
 use Rattle.std.proofs.lemmas.List.{with_items_is}
 use Rattle.slots.specs.Areas.{slot_state}
 use Rattle.slots.specs.Records.{slot_list}
-use Rattle.plans.specs.Requests.{request, slot_sizes}
+use Rattle.plans.specs.Requests.{asked, slot_sizes}
 use Rattle.plans.specs.Rooms.{rules_of}
 use Rattle.tensors.specs.Stored.{Stored}
 use Rattle.tensors.proofs.calls.store.Goals as goal
@@ -16,7 +16,7 @@ returns g c =
     let Then : List ℕ → List g.row.V-Plain.Denot → List ℕ → List g.row.V-Plain.Denot → Type 0 = λ w v x y.
     Stored (rules_of g.S.Formats.wants g.S.Formats.births) g.S.Formats.meaning g.S.Formats.kept g.V.Semiring.algebra.zero g.V.Semiring.reads
     (slot_sizes a.room.level_words a.room.positions)
-    (request c.args.slot c.args.rank c.args.extents.now c.args.formats.now c.args.coordinates.now (map g.V.Semiring.reads c.args.entries.now))
+    (asked g.V.Semiring.reads c.args.request.now)
     (slot_state (slot_list a.slots) w v) c.store_in.result (slot_state (slot_list c.store_in.new.slots) x y) in
     let words-was = c.deref_mut.ensures.value in
     let values-was = c.deref_mut-2.ensures.value in

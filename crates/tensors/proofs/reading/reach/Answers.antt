@@ -1,8 +1,8 @@
-use Rattle.std.proofs.Common.{◌≡◌, ◌+◌, ◌-◌, ◌<◌, ◌≤◌, min, length, take, drop, Some, sym, ap, ◌∙◌, subst, arith, rules}
+use Rattle.std.proofs.Common.{◌≡◌, ℕ, ◌+◌, ◌-◌, ◌<◌, ◌≤◌, min, length, take, drop, Some, sym, ap, ◌∙◌, subst, arith, rules}
 use Rattle.std.proofs.lemmas.List.{length-map, length_push, length-take-le, get_or-take}
 use Rattle.std.proofs.lemmas.Slice.Zip.{zip_turn, zip_end}
 use Rattle.formats.specs.Sizes.{size_of}
-use Rattle.model.specs.Fibers.{fiber_at, child}
+use Rattle.model.specs.Fibers.{Ascends, coords, fiber, fiber_at, child}
 use Rattle.model.specs.Tensors.{reached}
 use Rattle.slots.specs.Layouts.{levels_on, Kept}
 use Rattle.slots.specs.Records.{sizes, level_of}
@@ -10,6 +10,7 @@ use Rattle.plans.specs.Rooms.{rules_of}
 use Rattle.tensors.proofs.Additions.{lawful_ascends}
 use Rattle.tensors.proofs.Raises.{level_at}
 use Rattle.tensors.proofs.Reaches.{kept_here, kept_rest, reached_step, reached_end}
+use Rattle.tensors.proofs.Storeds.{stored_means}
 use Rattle.tensors.proofs.reading.reach.Goals as goal
 
 pub loop-level-preserved : goal.loop-level-preserved
@@ -35,7 +36,8 @@ loop-level-preserved g c =
     let here = kept_here rules meaning kept ls ws cs i c.loop-level.start c.min-end.result lv.format (size_of lv.size) (omega (arith, all)) is c.loop-level.invariant.0 ends (c.loop-level.invariant.1 k) in
     reached_step rules meaning kept ls ws cs i c.loop-level.start c.min-end.result lv.format (size_of lv.size) (omega (arith, all)) is c.loop-level.invariant.0 ends
     c.loop-level.reference c.step-reference.result (omega (arith, c.requires))
-    (c.step-reference.ensures (lawful_ascends _ _ _ _ (g.met.S.Formats.lawful lv.format (size_of lv.size) _ here)) ∙ ap (λ x. child (fiber_at (meaning lv.format (size_of lv.size) (take (c.min-end.result - c.loop-level.start) (drop c.loop-level.start ws))) c.loop-level.reference) x) (turn.3 0)) ∙ c.loop-level.invariant.2 k in
+    (subst (λ y. ((p : ℕ) → Ascends (coords (fiber y p))) → c.step-reference.result ≡ child (fiber_at y c.loop-level.reference) c.in-Some.coordinate.now)
+    (stored_means meaning c.stored.result lv.format lv.size _ c.stored.ensures) c.step-reference.ensures (lawful_ascends _ _ _ _ (g.met.S.Formats.lawful lv.format (size_of lv.size) _ here)) ∙ ap (λ x. child (fiber_at (meaning lv.format (size_of lv.size) (take (c.min-end.result - c.loop-level.start) (drop c.loop-level.start ws))) c.loop-level.reference) x) (turn.3 0)) ∙ c.loop-level.invariant.2 k in
     subst (λ n. (c.min-end.result ≤ length ws) × (Kept rules kept ls ws → Kept rules kept (drop n ls) (drop c.min-end.result ws))
     × (Kept rules kept ls ws → reached (levels_on rules meaning (drop n ls) (drop c.min-end.result ws)) c.step-reference.result (drop n cs) ≡ reached (levels_on rules meaning ls ws) (Some 0) cs))
     (sym (length_push c.loop-level.yielded (c.in-Some.level, c.in-Some.coordinate))) (
