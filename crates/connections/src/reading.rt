@@ -1,10 +1,15 @@
 // Shows what a line says, or where it is at fault. A line is read over two slots: A holds the legs into the docks, B those out of them.
+ghost use Rattle.std.specs.Prelude.{◌≡◌, [], ◌∷◌, Some, None};
+ghost use Rattle.lines.specs.Given.{slots_of};
+
 use lines::{Access, Extents, LineFault, Slots, Syntax, VarList, read_line};
 use reader::Node;
 use std::{io, iter};
 
 // A and B have one argument, the dock.
-pub fn leg_slots(docks: u32) -> Slots {
+pub fn leg_slots(docks: u32) -> Slots
+    ensures { ((slots_of result 0 ≡ Some (docks ∷ [])) × (slots_of result 1 ≡ Some (docks ∷ []))) × (slots_of result 2 ≡ None) }
+{
     let legs = Some(Extents {
         rank: 1,
         extents: [docks, 0, 0],
