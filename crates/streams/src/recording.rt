@@ -5,8 +5,10 @@ ghost use Rattle.streams.specs.Records.{Empty, Pushed, PushedAlone, Recorded, Re
 
 use crate::fault::NoRoom;
 use crate::record::Tapes;
-use arrayvec::ArrayVec;
 use tapes::part::Part;
+
+// The most streams that there are: their numbers are bytes, and FF is no stream.
+const MOST: usize = 255;
 
 impl Tapes {
     // No stream, and nothing in use.
@@ -14,7 +16,8 @@ impl Tapes {
         ensures { Empty result }
     {
         Tapes {
-            parts: ArrayVec::new(),
+            starts: [0; 256],
+            count: 0,
             used: 0,
             taken: 0,
         }
@@ -24,34 +27,35 @@ impl Tapes {
     pub fn clear(&mut self)
         ensures { Empty self.new }
     {
-        self.parts.clear();
+        self.starts[0] = 0;
+        self.count = 0;
         self.used = 0;
         self.taken = 0;
     }
 
-    // Where the tape of a stream lies; nowhere where there is no such stream.
+    // Where the tape of a stream lies; nowhere past the last number.
     pub fn part(&self, stream: u8) -> Part
         ensures { result ≡ part_of self.now stream }
     {
-        self.parts
-            .as_slice()
-            .get(usize::from(stream))
-            .copied()
-            .unwrap_or_default()
+        let n = stream as usize;
+        if n >= MOST {
+            return Part { from: 0, to: 0 };
+        }
+        Part {
+            from: self.starts[n],
+            to: self.starts[n + 1],
+        }
     }
 
     // One more tape, of n words right behind those in use, and with m values. Where there are as many streams as there may be, its place is not kept.
     pub fn push(&mut self, n: usize, m: usize)
         ensures { Pushed n m self.old self.new }
     {
-        let from = self.used;
-        self.used = from.saturating_add(n);
+        self.used = self.used.saturating_add(n);
         self.taken = self.taken.saturating_add(m);
-        if !self.parts.is_full() {
-            self.parts.push(Part {
-                from,
-                to: self.used,
-            });
+        if self.count < MOST {
+            self.count += 1;
+            self.starts[self.count] = self.used;
         }
     }
 
