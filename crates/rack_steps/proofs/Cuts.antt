@@ -59,7 +59,7 @@ keeps_cut reads ss t m k words values used taken h =
       tapes = take-take t.used m words used ∙ h.tapes;
       taken = h.taken;
       values = ap (map reads) (take-take t.taken k values taken) ∙ h.values;
-      parts = h.parts;
+      starts = h.starts;
     }
 
 pub keeps_whole :
@@ -72,7 +72,7 @@ keeps_whole reads ss t m k words values used taken h =
       tapes = sym (take-take t.used m words used) ∙ h.tapes;
       taken = h.taken;
       values = ap (map reads) (sym (take-take t.taken k values taken)) ∙ h.values;
-      parts = h.parts;
+      starts = h.starts;
     }
 
 -- a table in the rows
