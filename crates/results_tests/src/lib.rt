@@ -64,4 +64,17 @@ mod tests {
         assert_eq!(rt; find(&scratch, &key(2, 8)), Err(1));
         Ok(())
     }
+
+    // Where the keys do not ascend, the search ends at the first equal key that it meets, and `add` adds there.
+    #[test]
+    fn finds_where_keys_do_not_ascend(rt: HostRuntime) -> Result<(), Fail> {
+        let zeros = [NO_KEY; 3];
+        assert_eq!(rt; find(&zeros, &NO_KEY), Ok(1));
+        let mut keys = [NO_KEY, key(1, 0), NO_KEY];
+        assert_eq!(rt; find(&keys, &key(1, 0)), Ok(1));
+        let mut values = [1u32, 2, 3];
+        let n = add(&mut keys, &mut values, 3, key(1, 0), Count::new(10)).ok_or("full")?;
+        assert!(rt; n == 3 && values[0] == 1 && values[1] == 12 && values[2] == 3);
+        Ok(())
+    }
 }
