@@ -7,7 +7,7 @@ ghost use Rattle.rack_state.specs.Answered.{answered};
 ghost use Rattle.rack_state.specs.Does.{Does};
 
 use levels::Formats;
-use rack_state::{Fault, RackState};
+use rack_state::{Fault, RackState, is_busy};
 use semiring::Semiring;
 use tensors::StoreRequest;
 
@@ -18,7 +18,7 @@ pub fn store<V: Semiring, S: Formats>(
 ) -> Result<usize, Fault>
     ensures { Does V.algebra V.reads (rules_of S.wants S.births) S.meaning (STORE (asked V.reads request.now)) (view rack.old) (answered stored result) (view rack.new) }
 {
-    if rack.is_busy() {
+    if is_busy(rack.loaded, rack.graph.commands) {
         return Err(Fault::Busy);
     }
     let used = tensors::store::<V, S>(&mut rack.tensors, request)?;

@@ -8,5 +8,6 @@ mod making;
 mod state;
 
 pub use areas::{Areas, RackSizes, ResultAreas, StreamAreas};
+pub use busy::is_busy;
 pub use calls::{Entry, Fault};
 pub use state::{Loaded, RackState};
