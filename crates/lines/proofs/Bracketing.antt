@@ -4,10 +4,11 @@ use Rattle.std.proofs.lemmas.List.{map-append}
 use Rattle.std.proofs.lemmas.Bool.{lt-ltb, le-ltb}
 use Rattle.reader.specs.declared.node.Node.{Node}
 use Rattle.reader.specs.declared.node.Node.TheVariants.{Access, Group}
-use Rattle.reader.specs.declared.vars.VarList.{VarList}
 use Rattle.model.specs.Grammar.{Tree, times, plus, text}
 use Rattle.model.specs.Conditions.{first_fault, openings}
+use Rattle.reader.specs.Order.{Before}
 use Rattle.reader.specs.Nodes.{node}
+use Rattle.reader.proofs.Ordered.{nowhere}
 use Rattle.reader.proofs.Views.{at_access, at_group}
 use Rattle.std.specs.Option.{option_or}
 use Rattle.lines.specs.Limits.{too_deep, Deep}
@@ -18,7 +19,10 @@ module _ (ns : List Node) (i d : ℕ) where
   abbrev Is : Option ℕ → ℕ → Tree → Type 0
   Is r at t = r ≡ first_fault (map too_deep (openings at d t))
 
-  pub deep_access : (p k : ℕ) (n : VarList) → node ns i ≡ Access p k n → Deep ns i d None
+  pub deep_none : (Before (node ns i) i → ⊥) → Deep ns i d None
+  deep_none nay = nowhere (Is None) ns i nay
+
+  pub deep_access : (p k n : ℕ) → node ns i ≡ Access p k n → Deep ns i d None
   deep_access p k n e = at_access (Is None) ns i p k n e (λ l vs x y. refl)
 
   pub deep_over : (p j : ℕ) → node ns i ≡ Group p j → 4 ≤ d → Deep ns i d (Some p)

@@ -1,5 +1,5 @@
 -- Variables of nodes, one node on. Assumes nothing.
-use Rattle.std.proofs.Common.{◌≡◌, ℕ, ◌+◌, Bool, true, false, ◌&&◌, ◌||◌, eqb, List, [], ◌∷◌, ◌++◌, length, Decides, sym, refl, ap, ◌∙◌, subst, ⊎_elim}
+use Rattle.std.proofs.Common.{◌≡◌, ℕ, ◌+◌, ◌≤◌, Bool, true, false, ◌&&◌, ◌||◌, eqb, List, [], ◌∷◌, ◌++◌, length, Decides, sym, refl, ap, ◌∙◌, subst, ⊎_elim, arith}
 use Rattle.std.specs.List.{flat_map}
 use Rattle.std.proofs.lemmas.List.{append_assoc, append-nil}
 use Rattle.std.proofs.ByRecursion.{All-append}
@@ -10,7 +10,9 @@ use Rattle.model.specs.Terms.{Access as ModelAccess}
 use Rattle.model.specs.Grammar.{Tree, access, group, times, plus, text, is_var, Vars}
 use Rattle.model.specs.Reading.{accesses}
 use Rattle.model.specs.Conditions.{tree_vars, all_in, last_product}
+use Rattle.reader.specs.Order.{Before}
 use Rattle.reader.specs.Nodes.{node, Holds}
+use Rattle.reader.proofs.Ordered.{nowhere}
 use Rattle.reader.proofs.Views.{at_access, at_group, at_plus}
 use Rattle.lines.specs.declared.sets.VarSet.{VarSet}
 use Rattle.reader.specs.declared.vars.VarList.{VarList}
@@ -51,11 +53,15 @@ or_turn false true z = refl
 or_turn false false z = refl
 
 module _ (s : List ℕ) (ns : List Node) (i : ℕ) where
-  pub adds_access : (p k : ℕ) (v : VarList) (old new : VarSet) → node ns i ≡ Access p k v → (Vars (vars_of s v) → WithAll old (vars_of s v) new) → Adds s ns i old new
-  adds_access p k v old new e w =
-      at_access (λ at t. Tied s at t → WithAll old (tree_vars t) new) ns i p k v e
+  pub adds_none : (old new : VarSet) → (Before (node ns i) i → ⊥) → Adds s ns i old new
+  adds_none old new nay = nowhere (λ at t. Tied s at t → WithAll old (tree_vars t) new) ns i nay
+
+  pub adds_access : (p k n : ℕ) (v : VarList) (old new : VarSet) → node ns i ≡ Access p k n → (p + 2 ≤ length s + 1 → v ≡ record { place = p + 2; count = n }) → (Vars (vars_of s v) → WithAll old (vars_of s v) new) → Adds s ns i old new
+  adds_access p k n v old new e near w =
+      at_access (λ at t. Tied s at t → WithAll old (tree_vars t) new) ns i p k n e
       (λ l vs x y h.
-      let is : vars_of s v ≡ vs = ap (vars_of s) (sym y) ∙ vars_inside s (record { place = p + 2; count = length vs }) h.1 ∙ h.0 in
+      let here : v ≡ record { place = p + 2; count = length vs } = near (omega (arith, h.1)) ∙ ap (λ m. record { place = p + 2; count = m }) (sym y) in
+      let is : vars_of s v ≡ vs = ap (vars_of s) here ∙ vars_inside s (record { place = p + 2; count = length vs }) h.1 ∙ h.0 in
       subst (λ us. WithAll old us new) (sym (append-nil vs)) (subst (λ us. WithAll old us new) is (w (subst Vars (sym is) h.2))))
 
   pub adds_group : (p j : ℕ) (old new : VarSet) → node ns i ≡ Group p j → Adds s ns j old new → Adds s ns i old new
@@ -79,6 +85,9 @@ module _ (s : List ℕ) (ns : List Node) (i : ℕ) where
 
   pub has_vars : (none set : VarSet) → NoVar none → Adds s ns i none set → HasVars s ns i set
   has_vars none set empty w t at h td v is = w t at h td v is ∙ ap (λ b. has (tree_vars t) v || b) (empty v is) ∙ or_none (has (tree_vars t) v)
+
+  pub last_none : (r : VarSet) → (Before (node ns i) i → ⊥) → HasLastVars s ns i r
+  last_none r nay = nowhere (λ at t. Tied s at t → SetOf (tree_vars (last_product t)) r) ns i nay
 
   -- the last product of a sum is its last part, and that of any other node the node itself
   pub last_plus : (p j k : ℕ) (r : VarSet) → node ns i ≡ Plus p j k → HasVars s ns k r → HasLastVars s ns i r

@@ -52,3 +52,6 @@ module _ (s : List ℕ) (l : Syntax) (h : Spells s l) where
 
   pub accesses_few : length (placed_accesses l) ≤ 85
   accesses_few = omega (arith, few_accesses l.body (body_place l), line_length, h.short)
+
+  pub body_short : body_place l + length (text l.body) ≤ 256
+  body_short = omega (arith, line_length, h.short)

@@ -9,7 +9,7 @@ use Rattle.lines.specs.declared.sets.VarSet.{VarSet}
 use Rattle.lines.specs.declared.line.Syntax.{Syntax as Record}
 use Rattle.reader.specs.Lists.{vars_of}
 use Rattle.lines.specs.Sets.{SetOf}
-use Rattle.lines.specs.Tables.{entry, stood_for}
+use Rattle.lines.specs.Tables.{entries, entry, stood_for}
 use Rattle.lines.specs.Checks.{misfit_check, misfit, unordered_check, unordered, order_faults}
 use Rattle.std.specs.Option.{option_or}
 use Rattle.lines.specs.Limits.{letters, crowded, too_deep, Deep}
@@ -35,8 +35,8 @@ map_joined f g (x ∷ xs) = ap (λ l. map f (g x) ++ l) (map_joined f g xs) ∙ 
 
 module _ (s : List ℕ) (x : Record) (l : Syntax) (h : Spells s l) (d : Describes x l) where
   -- checks of the entries are checks of the accesses
-  each : (f : PlacedAccess → Check) → map (λ e. f (stood_for s e)) x.accesses.items ≡ map f (placed_accesses l)
-  each f = map_map f (stood_for s) x.accesses.items ∙ ap (map f) (table_stands s x l h d)
+  each : (f : PlacedAccess → Check) → map (λ e. f (stood_for s e)) (entries x.accesses) ≡ map f (placed_accesses l)
+  each f = map_map f (stood_for s) (entries x.accesses) ∙ ap (map f) (table_stands s x l h d)
 
   -- and so is what is listed for each
   pub listed_each : {B : Type 0} (F : PlacedAccess → List B) → flat_map (λ a. F (stood_for s (entry a))) (placed_accesses l) ≡ flat_map F (placed_accesses l)
@@ -44,15 +44,15 @@ module _ (s : List ℕ) (x : Record) (l : Syntax) (h : Spells s l) (d : Describe
       joined_map F (λ a. stood_for s (entry a)) (placed_accesses l)
       ∙ ap (flat_map F) (map_map (stood_for s) entry (placed_accesses l) ∙ ap (map (stood_for s)) (sym d.table) ∙ table_stands s x l h d)
 
-  pub unordered_rule : (r : Option ℕ) → r ≡ first_fault (map (unordered (vars_of s x.order) s) x.accesses.items) → r ≡ out_of_order l
+  pub unordered_rule : (r : Option ℕ) → r ≡ first_fault (map (unordered (vars_of s x.order) s) (entries x.accesses)) → r ≡ out_of_order l
   unordered_rule r e =
-      e ∙ ap (λ os. first_fault (map (unordered os s) x.accesses.items)) (order_is s x l h d) ∙ ap first_fault (each (unordered_check l.order))
+      e ∙ ap (λ os. first_fault (map (unordered os s) (entries x.accesses))) (order_is s x l h d) ∙ ap first_fault (each (unordered_check l.order))
 
   module _ (slots : Slots) where
     pub repeats_rule : true ≡ repeats (vars_of s x.left) → Some 0 ≡ wrong_access slots l
     repeats_rule e = ap (λ b. cond b (Some 0) (first_fault (map (misfit_check slots) (placed_accesses l)))) (e ∙ ap repeats (left_is s x l h d))
 
-    pub misfit_rule : (r : Option ℕ) → false ≡ repeats (vars_of s x.left) → r ≡ first_fault (map (misfit slots s) x.accesses.items) → r ≡ wrong_access slots l
+    pub misfit_rule : (r : Option ℕ) → false ≡ repeats (vars_of s x.left) → r ≡ first_fault (map (misfit slots s) (entries x.accesses)) → r ≡ wrong_access slots l
     misfit_rule r nay e =
         e ∙ ap first_fault (each (misfit_check slots))
         ∙ ap (λ b. cond b (Some 0) (first_fault (map (misfit_check slots) (placed_accesses l)))) (nay ∙ ap repeats (left_is s x l h d))
@@ -60,16 +60,16 @@ module _ (s : List ℕ) (x : Record) (l : Syntax) (h : Spells s l) (d : Describe
     sizes : PlacedAccess → List Sized
     sizes a = sized_vars (access_vars a) (extents_of (slots a.of.slot))
 
-    sized_all : flat_map (sized_of slots s) x.accesses.items ≡ sized slots l
+    sized_all : flat_map (sized_of slots s) (entries x.accesses) ≡ sized slots l
     unfolding sizes
     sized_all = ap (flat_map (sized_of slots s)) d.table ∙ sym (joined_map (sized_of slots s) entry (placed_accesses l)) ∙ listed_each sizes
 
-    pub extents_rule : (r : Option ℕ) → r ≡ first_fault (flat_map (λ e. map (differs slots s x.accesses.items) (sized_of slots s e)) x.accesses.items) → r ≡ other_extent slots l
+    pub extents_rule : (r : Option ℕ) → r ≡ first_fault (flat_map (λ e. map (differs slots s (entries x.accesses)) (sized_of slots s e)) (entries x.accesses)) → r ≡ other_extent slots l
     extents_rule r e =
-        e ∙ ap first_fault (map_joined (differs slots s x.accesses.items) (sized_of slots s) x.accesses.items)
+        e ∙ ap first_fault (map_joined (differs slots s (entries x.accesses)) (sized_of slots s) (entries x.accesses))
         ∙ ap (λ zs. first_fault (map (λ z. (z.place, not (eqb z.extent (extent_in zs z.var)))) zs)) sized_all
 
-  pub order_rule : (used : VarSet) (r : Option ℕ) → HasVars s x.parsed.arena.nodes.items x.parsed.root used → (Vars (vars_of s x.order) → (us : List ℕ) → Vars us → SetOf us used → r ≡ first_fault (order_faults us s x.order)) → r ≡ wrong_order l
+  pub order_rule : (used : VarSet) (r : Option ℕ) → HasVars s x.parsed.arena.nodes x.parsed.root used → (Vars (vars_of s x.order) → (us : List ℕ) → Vars us → SetOf us used → r ≡ first_fault (order_faults us s x.order)) → r ≡ wrong_order l
   order_rule used r w f =
       let us = tree_vars l.body in
       f (order_vars_in s x l h d) us (tied_vars s l.body x.parsed.body (body_tied s x l h d)) (w l.body x.parsed.body d.stands.holds (body_tied s x l h d))
@@ -77,7 +77,7 @@ module _ (s : List ℕ) (x : Record) (l : Syntax) (h : Spells s l) (d : Describe
       ∙ ap (λ o. first_fault (order_checks us [] (placed_vars o.place l.order) ++ (length s, not (all_in us l.order)) ∷ [])) d.order
       ∙ ap (λ n. first_fault (order_checks us [] (placed_vars (order_place l) l.order) ++ (n, not (all_in us l.order)) ∷ [])) (sym (ap length h.spelled))
 
-  pub uneven_rule : (left : VarSet) (p q r : Option ℕ) → SetOf (vars_of s x.left) left → SumsEvenly s x.parsed.arena.nodes.items x.parsed.root false p → TermsHave s x.parsed.arena.nodes.items x.parsed.root x.parsed.body left q → r ≡ leftmost p q → r ≡ uneven l
+  pub uneven_rule : (left : VarSet) (p q r : Option ℕ) → SetOf (vars_of s x.left) left → SumsEvenly s x.parsed.arena.nodes x.parsed.root false p → TermsHave s x.parsed.arena.nodes x.parsed.root x.parsed.body left q → r ≡ leftmost p q → r ≡ uneven l
   uneven_rule left p q r set f g e =
       let t = body_tied s x l h d in
       let sums : p ≡ first_fault (additions (body_place l) false l.body) = f l.body x.parsed.body d.stands.holds t ∙ ap (λ b. first_fault (additions b false l.body)) d.stands.body in
@@ -88,7 +88,7 @@ module _ (s : List ℕ) (x : Record) (l : Syntax) (h : Spells s l) (d : Describe
 
 -- the limits
 module _ (s : List ℕ) (x : Record) (l : Syntax) (h : Spells s l) (d : Describes x l) where
-  ninth_is : map (λ e. e.place) x.accesses.items ≡ map (λ a. a.place) (placed_accesses l)
+  ninth_is : map (λ e. e.place) (entries x.accesses) ≡ map (λ a. a.place) (placed_accesses l)
   ninth_is = ap (map (λ e. e.place)) d.table ∙ sym (map_map (λ e. e.place) entry (placed_accesses l))
 
   left_crowded : crowded s x.left ≡ beyond 3 (places (left_vars l))
@@ -97,21 +97,21 @@ module _ (s : List ℕ) (x : Record) (l : Syntax) (h : Spells s l) (d : Describe
   fourths : PlacedAccess → List Check
   fourths a = beyond 3 (places (access_vars a))
 
-  all_crowded : flat_map (λ e. crowded s e.vars) x.accesses.items ≡ flat_map (λ a. beyond 3 (places (access_vars a))) (placed_accesses l)
+  all_crowded : flat_map (λ e. crowded s e.vars) (entries x.accesses) ≡ flat_map (λ a. beyond 3 (places (access_vars a))) (placed_accesses l)
   unfolding fourths
   all_crowded = ap (flat_map (λ e. crowded s e.vars)) d.table ∙ sym (joined_map (λ e. crowded s e.vars) entry (placed_accesses l)) ∙ listed_each s x l h d fourths
 
-  argument_is : option_or (first_fault (crowded s x.left)) (first_fault (flat_map (λ e. crowded s e.vars) x.accesses.items)) ≡ first_fault (beyond 3 (places (left_vars l)) ++ flat_map (λ a. beyond 3 (places (access_vars a))) (placed_accesses l))
+  argument_is : option_or (first_fault (crowded s x.left)) (first_fault (flat_map (λ e. crowded s e.vars) (entries x.accesses))) ≡ first_fault (beyond 3 (places (left_vars l)) ++ flat_map (λ a. beyond 3 (places (access_vars a))) (placed_accesses l))
   argument_is =
-      ap (λ cs. option_or (first_fault cs) (first_fault (flat_map (λ e. crowded s e.vars) x.accesses.items))) left_crowded
+      ap (λ cs. option_or (first_fault cs) (first_fault (flat_map (λ e. crowded s e.vars) (entries x.accesses)))) left_crowded
       ∙ ap (λ cs. option_or (first_fault (beyond 3 (places (left_vars l)))) (first_fault cs)) all_crowded
       ∙ sym (first_fault_append (beyond 3 (places (left_vars l))) (flat_map (λ a. beyond 3 (places (access_vars a))) (placed_accesses l)))
 
   pub limits_rule : (a b c e p q r : Option ℕ)
-      → a ≡ first_fault (beyond 8 (map (λ y. y.place) x.accesses.items))
+      → a ≡ first_fault (beyond 8 (map (λ y. y.place) (entries x.accesses)))
       → b ≡ first_fault (beyond 4 (places (firsts [] (letters 0 s))))
-      → c ≡ option_or (first_fault (crowded s x.left)) (first_fault (flat_map (λ y. crowded s y.vars) x.accesses.items))
-      → Deep x.parsed.arena.nodes.items x.parsed.root 0 e
+      → c ≡ option_or (first_fault (crowded s x.left)) (first_fault (flat_map (λ y. crowded s y.vars) (entries x.accesses)))
+      → Deep x.parsed.arena.nodes x.parsed.root 0 e
       → p ≡ leftmost c e → q ≡ leftmost b p → r ≡ leftmost a q → r ≡ over_limits l
   limits_rule a b c e p q r ea eb ec ee ep eq er =
       let na : a ≡ first_fault (beyond 8 (map (λ y. y.place) (placed_accesses l))) = ea ∙ ap (λ ps. first_fault (beyond 8 ps)) ninth_is in

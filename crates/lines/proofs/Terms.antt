@@ -6,9 +6,10 @@ use Rattle.reader.specs.declared.node.Node.TheVariants.{Access, Group, Times, Pl
 use Rattle.model.specs.Grammar.{Tree, access, group, times, plus, text, Vars}
 use Rattle.model.specs.Reading.{terms_from}
 use Rattle.model.specs.Conditions.{first_fault, tree_vars, all_in, same_vars, last_product, additions}
+use Rattle.reader.specs.Order.{Before}
 use Rattle.reader.specs.Nodes.{node}
+use Rattle.reader.proofs.Ordered.{nowhere}
 use Rattle.reader.proofs.Views.{at_access, at_group, at_times, at_plus}
-use Rattle.reader.specs.declared.vars.VarList.{VarList}
 use Rattle.lines.specs.declared.sets.VarSet.{VarSet}
 use Rattle.lines.specs.Sets.{SetOf, Within}
 use Rattle.std.specs.Option.{option_or}
@@ -33,7 +34,10 @@ module _ (s : List ℕ) (ns : List Node) (i : ℕ) where
     abbrev Is : Option ℕ → ℕ → Tree → Type 0
     Is r at t = Tied s at t → r ≡ first_fault (additions at inside t)
 
-    pub even_access : (p k : ℕ) (n : VarList) → node ns i ≡ Access p k n → SumsEvenly s ns i inside None
+    pub even_none : (Before (node ns i) i → ⊥) → SumsEvenly s ns i inside None
+    even_none nay = nowhere (Is None) ns i nay
+
+    pub even_access : (p k n : ℕ) → node ns i ≡ Access p k n → SumsEvenly s ns i inside None
     even_access p k n e = at_access (Is None) ns i p k n e (λ l vs x y td. refl)
 
     pub even_group : (p j : ℕ) (r : Option ℕ) → node ns i ≡ Group p j → SumsEvenly s ns j true r → SumsEvenly s ns i inside r
@@ -73,6 +77,9 @@ module _ (s : List ℕ) (ns : List Node) (i : ℕ) where
     terms_other at r nay w (group u) p h td is ls vars sl = ap (λ x. cond r None (Some x)) (sym is) ∙ alone r (all_in ls (tree_vars (group u))) p (w (group u) p h td ls vars sl)
     terms_other at r nay w (times a b) p h td is ls vars sl = ap (λ x. cond r None (Some x)) (sym is) ∙ alone r (all_in ls (tree_vars (times a b))) p (w (times a b) p h td ls vars sl)
     terms_other at r nay w (plus a b) p h td is ls vars sl = absurd (nay (p + length (text a)) h.0 h.1 h.4)
+
+    pub terms_none : (at : ℕ) → (Before (node ns i) i → ⊥) → TermsHave s ns i at left None
+    terms_none at nay = nowhere (λ p t. Tied s p t → p ≡ at → (ls : List ℕ) → Vars ls → SetOf ls left → None ≡ first_fault (map (term_check ls) (terms_from p t))) ns i nay
 
     pub terms_plus : (at z q j k : ℕ) (before : Option ℕ) (r : Bool) (o : Option ℕ) → node ns i ≡ Plus z j k → (z + 1 < length s → q ≡ z + 1) → TermsHave s ns j at left before → TermHas s ns k left r → o ≡ option_or before (cond r None (Some q)) → TermsHave s ns i at left o
     terms_plus at z q j k before r o e inner g h is =

@@ -2,7 +2,7 @@
 ghost use Rattle.lines.specs.Evenness.{Adds, HasVars, HasLastVars, Alike, PlusEvenly, SumsEvenly, TermHas, TermsHave};
 
 use crate::sets::VarSet;
-use reader::{Arena, Node};
+use reader::{Arena, Node, VarList};
 
 // A tree, with the text in which it is written.
 #[derive(Clone, Copy)]
@@ -14,10 +14,19 @@ pub(crate) struct Written<'a> {
 impl Written<'_> {
     // Adds the variables of a node.
     fn add_vars(self, at: usize, set: &mut VarSet)
-        ensures { Adds self.entry.text.now self.entry.arena.now.nodes.items at set.old set.new }
+        ensures { Adds self.entry.text.now self.entry.arena.now.nodes at set.old set.new }
     {
-        match self.arena.node(at) {
-            Node::Access { vars, .. } => set.add(self.text, vars),
+        let Some(node) = self.arena.node(at) else {
+            return;
+        };
+        match node {
+            Node::Access { place, vars, .. } => set.add(
+                self.text,
+                VarList {
+                    place: place.saturating_add(2),
+                    count: vars,
+                },
+            ),
             Node::Group { inner, .. } => self.add_vars(inner, set),
             Node::Times { left, right } | Node::Plus { left, right, .. } => {
                 self.add_vars(left, set);
@@ -27,7 +36,7 @@ impl Written<'_> {
     }
 
     pub(crate) fn vars(self, at: usize) -> VarSet
-        ensures { HasVars self.entry.text.now self.entry.arena.now.nodes.items at result }
+        ensures { HasVars self.entry.text.now self.entry.arena.now.nodes at result }
     {
         let mut set = VarSet::new();
         self.add_vars(at, &mut set);
@@ -36,9 +45,12 @@ impl Written<'_> {
 
     // The variables of the last product of a sum.
     fn last_vars(self, at: usize) -> VarSet
-        ensures { HasLastVars self.entry.text.now self.entry.arena.now.nodes.items at result }
+        ensures { HasLastVars self.entry.text.now self.entry.arena.now.nodes at result }
     {
-        match self.arena.node(at) {
+        let Some(node) = self.arena.node(at) else {
+            return VarSet::new();
+        };
+        match node {
             Node::Plus { right, .. } => self.vars(right),
             _ => self.vars(at),
         }
@@ -46,7 +58,7 @@ impl Written<'_> {
 
     // Whether the products next to a plus have the same variables.
     fn alike(self, left: usize, right: usize) -> bool
-        ensures { Alike self.entry.text.now self.entry.arena.now.nodes.items left right result }
+        ensures { Alike self.entry.text.now self.entry.arena.now.nodes left right result }
     {
         let before = self.last_vars(left);
         let behind = self.vars(right);
@@ -55,16 +67,16 @@ impl Written<'_> {
 
     // A plus inside brackets, between products of different variables.
     fn uneven_plus(self, left: usize, right: usize, place: usize, inside: bool) -> Option<usize>
-        ensures { PlusEvenly self.entry.text.now self.entry.arena.now.nodes.items left right place inside result }
+        ensures { PlusEvenly self.entry.text.now self.entry.arena.now.nodes left right place inside result }
     {
         (inside && !self.alike(left, right)).then_some(place)
     }
 
     // The first plus inside brackets between products of different variables.
     pub(crate) fn uneven_sum(self, at: usize, inside: bool) -> Option<usize>
-        ensures { SumsEvenly self.entry.text.now self.entry.arena.now.nodes.items at inside result }
+        ensures { SumsEvenly self.entry.text.now self.entry.arena.now.nodes at inside result }
     {
-        match self.arena.node(at) {
+        match self.arena.node(at)? {
             Node::Access { .. } => None,
             Node::Group { inner, .. } => self.uneven_sum(inner, true),
             Node::Times { left, right } => {
@@ -81,16 +93,16 @@ impl Written<'_> {
 
     // Whether a term has the left variables.
     fn has_left(self, at: usize, left: &VarSet) -> bool
-        ensures { TermHas self.entry.text.now self.entry.arena.now.nodes.items at left.now result }
+        ensures { TermHas self.entry.text.now self.entry.arena.now.nodes at left.now result }
     {
         self.vars(at).includes(left)
     }
 
     // The start of the first term that lacks a left variable, where the node begins at a place.
     pub(crate) fn lacking_term(self, at: usize, start: usize, left: &VarSet) -> Option<usize>
-        ensures { TermsHave self.entry.text.now self.entry.arena.now.nodes.items at start left.now result }
+        ensures { TermsHave self.entry.text.now self.entry.arena.now.nodes at start left.now result }
     {
-        match self.arena.node(at) {
+        match self.arena.node(at)? {
             Node::Plus {
                 place,
                 left: sum,

@@ -97,8 +97,10 @@ pub fn read_line(text: &[u8], slots: &Slots) -> Result<Syntax, LineFault>
     ensures read { MatchResult result (ReadsLine (slots_of slots.now) text.now) (λ f. Refuses (slots_of slots.now) text.now (fault_of f)) }
     ensures rooted { IfOk result Rooted }
 {
-    let parsed = parse(text)?;
-    let line = describe(text, parsed);
+    let line = match parse(text) {
+        Ok(parsed) => describe(text, &parsed),
+        Err(fault) => return Err(LineFault::from(fault)),
+    };
     line.judge(text, slots)?;
     Ok(line)
 }

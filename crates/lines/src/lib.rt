@@ -13,7 +13,7 @@ mod misfits;
 mod orders;
 mod sets;
 
-pub use accesses::Access;
+pub use accesses::{Access, Accesses};
 pub use faults::{LineFault, Rule};
 pub use given::{Extents, Slots};
 pub use judging::read_line;

@@ -65,9 +65,9 @@ pub(crate) fn fourth_argument(text: &[u8], left: VarList, accesses: &[Access]) -
 // The first bracket that opens while four are open, where `depth` are open around the node.
 pub(crate) fn fifth_bracket(arena: &Arena, at: usize, depth: usize) -> Option<usize>
     requires { depth ≤ 4 }
-    ensures { Deep arena.now.nodes.items at depth result }
+    ensures { Deep arena.now.nodes at depth result }
 {
-    match arena.node(at) {
+    match arena.node(at)? {
         Node::Access { .. } => None,
         Node::Group { place, inner } => {
             if depth >= 4 {

@@ -4,24 +4,23 @@ ghost use Rattle.model.specs.Grammar.{Syntax as Line};
 ghost use Rattle.model.specs.Conditions.{Spells};
 ghost use Rattle.lines.specs.Describes.{Describes};
 
-use crate::accesses::{Access, collect};
-use arrayvec::ArrayVec;
+use crate::accesses::{Accesses, collect};
 use reader::{Parsed, VarList};
 
 // Where its parts begin and the tree of its right side, the variables of the left side and of the loop order, and the accesses.
-#[derive(Drop)]
+#[derive(Clone, Copy)]
 pub struct Syntax {
     pub parsed: Parsed,
     pub left: VarList,
     pub order: VarList,
-    pub accesses: ArrayVec<Access, 128>,
+    pub accesses: Accesses,
 }
 
-pub(crate) fn describe(text: &[u8], parsed: Parsed) -> Syntax
-    requires { Parses text.now parsed }
-    ensures { (l : Line) → Spells text.now l → Stands parsed l → Describes result l }
+pub(crate) fn describe(text: &[u8], parsed: &Parsed) -> Syntax
+    requires { Parses text.now parsed.now }
+    ensures { (l : Line) → Spells text.now l → Stands parsed.now l → Describes result l }
 {
-    let mut accesses = ArrayVec::new();
+    let mut accesses = Accesses::new();
     collect(&parsed.arena, parsed.root, &mut accesses);
     // Variables and the commas between them stand from behind the bracket up to the one before "=", and from behind ";" up to the end.
     let left = VarList {
@@ -33,7 +32,7 @@ pub(crate) fn describe(text: &[u8], parsed: Parsed) -> Syntax
         count: (text.len() + 1 - parsed.order) / 2,
     };
     Syntax {
-        parsed,
+        parsed: *parsed,
         left,
         order,
         accesses,

@@ -1,29 +1,31 @@
 -- Nodes stay behind their parts. Assumes nothing.
-use Rattle.std.proofs.Common.{◌≡◌, ℕ, ◌<◌, List, [], ◌∷◌, ◌++◌, length, sym, ap, subst, ⊎_elim, ◌∙◌, arith, length-append}
-use Rattle.std.proofs.lemmas.List.{get_or_append_left, get_or_past}
-use Rattle.std.proofs.Math.Seq.{get_or-append_seam}
+use Rattle.std.proofs.Common.{◌≡◌, ℕ, ◌<◌, ◌+◌, ◌-◌, List, length, take, sym, ap, subst, ⊎_elim, ◌∙◌, arith}
+use Rattle.std.proofs.lemmas.List.{length-take, get_or-take}
 use Rattle.std.proofs.str.Laws.{order}
 use Rattle.reader.specs.declared.node.Node.{Node}
 use Rattle.reader.specs.declared.node.Node.TheVariants.{Access, Group, Times, Plus}
-use Rattle.reader.specs.declared.vars.VarList.{VarList}
-use Rattle.reader.specs.Order.{node, Before, PartsFirst}
+use Rattle.reader.specs.declared.arena.Arena.{Arena}
+use Rattle.reader.specs.Order.{node, Before, PartsFirst, Ordered}
+use Rattle.model.specs.Grammar.{Tree, access, group, times, plus, text}
+use Rattle.reader.specs.Nodes.{Holds, Pushed}
 
-pub ordered_none : (ns : List Node) → ns ≡ [] → PartsFirst ns
-ordered_none ns e i h = absurd (omega (arith, ap length e))
-
-pub ordered_push : (ns ms : List Node) (x : Node) → PartsFirst ns → Before x (length ns) → ms ≡ ns ++ x ∷ [] → PartsFirst ms
-ordered_push ns ms x h b e i lt =
+pub pushed_first : {a b : Arena} {x : Node} {r : ℕ} → Pushed a x b r → Before x a.len → Ordered a → Ordered b
+pushed_first {a} {b} {x} {r} p h o i lt =
     ⊎_elim
-    (λ before. subst (λ l. Before (node l i) i) (sym e) (subst (λ y. Before y i) (sym (get_or_append_left ns (x ∷ []) (Access 0 0 (record { place = 0; count = 0 })) i before)) (h i before)))
+    (λ before. subst (λ y. Before y i) (sym (p.same i before)) (o i before))
     (λ last.
-    let here : length ns ≡ i = omega (arith, ap length e, length-append ns (x ∷ [])) in
-    subst (λ l. Before (node l i) i) (sym e)
-    (subst (λ j. Before (node (ns ++ x ∷ []) j) j) here (subst (λ y. Before y (length ns)) (sym (get_or-append_seam ns x [] (Access 0 0 (record { place = 0; count = 0 })))) b)))
-    (order i (length ns))
+    let here : r ≡ i = omega (arith, p.place, p.len) in
+    subst (λ y. Before y i) (sym (ap (node b.nodes) (sym here) ∙ p.here)) (subst (Before x) (sym p.place ∙ here) h))
+    (order i a.len)
+
+pub parts_first : (a : Arena) → Ordered a → PartsFirst (take a.len a.nodes)
+parts_first a o i lt =
+    let below : i < a.len = omega (arith, length-take a.len a.nodes) in
+    subst (λ y. Before y i) (sym (get_or-take a.len a.nodes i (Access 0 0 0) below)) (o i below)
 
 -- the parts of a new node
 module _ (i : ℕ) where
-  pub before_access : (p k : ℕ) (v : VarList) → Before (Access p k v) i
+  pub before_access : (p k v : ℕ) → Before (Access p k v) i
   before_access p k v = (
     λ q j e. let z : ◌≡◌ {A = ℕ} 0 1 = cc in absurd (omega arith),
     λ j l e. let z : ◌≡◌ {A = ℕ} 0 1 = cc in absurd (omega arith),
@@ -51,10 +53,12 @@ module _ (i : ℕ) where
     λ q l m e. let y : j ≡ l = cc in let z : k ≡ m = cc in (omega arith, omega arith),
   )
 
--- the parts of the node that stands at a place
-pub before_at : (ns : List Node) (i : ℕ) (x : Node) → PartsFirst ns → x ≡ node ns i → Before x i
-before_at ns i x h e =
-    ⊎_elim
-    (λ lt. subst (λ y. Before y i) (sym e) (h i lt))
-    (λ le. subst (λ y. Before y i) (sym (e ∙ get_or_past ns i (Access 0 0 (record { place = 0; count = 0 })) le)) (before_access i 0 0 (record { place = 0; count = 0 })))
-    (order i (length ns))
+-- a node that stands for a tree stands behind its parts
+pub holds_before : (t : Tree) (at : ℕ) (ns : List Node) (i : ℕ) → Holds t at ns i → Before (node ns i) i
+holds_before (access l vs) at ns i h = subst (λ x. Before x i) (sym h) (before_access i at (l - 65) (length vs))
+holds_before (group t) at ns i h = subst (λ x. Before x i) (sym h.2) (before_group i at h.0 h.1)
+holds_before (times a b) at ns i h = subst (λ x. Before x i) (sym h.4) (before_times i h.0 h.1 h.2 h.3)
+holds_before (plus a b) at ns i h = subst (λ x. Before x i) (sym h.4) (before_plus i (at + length (text a)) h.0 h.1 h.2 h.3)
+
+pub nowhere : (P : ℕ → Tree → Type 0) (ns : List Node) (i : ℕ) → (Before (node ns i) i → ⊥) → (t : Tree) (at : ℕ) → Holds t at ns i → P at t
+nowhere P ns i nay t at h = absurd (nay (holds_before t at ns i h))

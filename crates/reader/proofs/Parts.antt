@@ -1,7 +1,6 @@
 -- Sums, products and factors. Assumes nothing.
-use Rattle.std.proofs.Common.{◌≡◌, ℕ, suc, ◌+◌, ◌-◌, ◌/◌, ◌<◌, ◌≤◌, true, false, List, [], ◌∷◌, ◌++◌, length, get_or, sym, refl, ap, ◌∙◌, subst, arith, length-append}
-use Rattle.std.proofs.lemmas.List.{append-nil, append_assoc, get_or_append_left}
-use Rattle.std.proofs.Math.Seq.{get_or-append_seam}
+use Rattle.std.proofs.Common.{◌≡◌, ℕ, suc, ◌+◌, ◌-◌, ◌/◌, ◌<◌, ◌≤◌, true, false, List, [], ◌∷◌, ◌++◌, length, get_or, sym, refl, ap, ◌∙◌, subst, arith}
+use Rattle.std.proofs.lemmas.List.{append-nil, append_assoc}
 use Rattle.reader.specs.declared.node.Node.{Node}
 use Rattle.reader.specs.declared.node.Node.TheVariants.{Access, Group, Times, Plus}
 use Rattle.reader.specs.declared.arena.Arena.{Arena}
@@ -9,22 +8,13 @@ use Rattle.reader.specs.declared.parsing.Part.{Part}
 use Rattle.model.specs.Grammar.{is_slot, Tree, access, group, times, plus, args, text, height, Grammatical}
 use Rattle.reader.specs.Walk.{bracket, want, have, step}
 use Rattle.reader.specs.Reader.{Spans, Args, Failed, AnArgs, APart}
+use Rattle.reader.specs.Order.{Before}
 use Rattle.reader.specs.Nodes.{node, Holds, Pushed}
-use Rattle.reader.specs.Parts.{Grown, Read, Got}
+use Rattle.reader.specs.Parts.{Grown, Stops, Read, Got}
 use Rattle.reader.proofs.Walks.{then, times_goes, plus_goes, slot_goes, no_want, no_close, by_tree}
 use Rattle.reader.proofs.Fails.{spans_none, spans_byte, spans_part, spans_length, fails_here, fails_in}
 use Rattle.reader.proofs.Names.{args_long, args_count}
-
--- what a push leaves
-module _ {a b : Arena} {x : Node} {r : ℕ} (p : Pushed a x b r) where
-  pub pushed_long : length b.nodes.items ≡ length a.nodes.items + 1
-  pushed_long = ap length p.nodes ∙ length-append a.nodes.items (x ∷ [])
-
-  pub pushed_here : node b.nodes.items r ≡ x
-  pushed_here = ap (λ l. node l r) p.nodes ∙ ap (node (a.nodes.items ++ x ∷ [])) p.place ∙ get_or-append_seam a.nodes.items x [] (Access 0 0 (record { place = 0; count = 0 }))
-
-  pub pushed_same : (i : ℕ) → i < length a.nodes.items → node b.nodes.items i ≡ node a.nodes.items i
-  pushed_same i h = ap (λ l. node l i) p.nodes ∙ get_or_append_left a.nodes.items (x ∷ []) (Access 0 0 (record { place = 0; count = 0 })) i h
+use Rattle.reader.proofs.Ordered.{pushed_first, before_access, before_group, before_times, before_plus}
 
 -- a tree stays where the nodes up to it stay
 pub holds_on : (t : Tree) (at : ℕ) (ns ms : List Node) (n i : ℕ) → ((j : ℕ) → j < n → node ms j ≡ node ns j) → i < n → Holds t at ns i → Holds t at ms i
@@ -35,6 +25,18 @@ holds_on (times a b) at ns ms n i same lt h =
 holds_on (plus a b) at ns ms n i same lt h =
     (h.0, h.1, h.2, h.3, same i lt ∙ h.4, holds_on a at ns ms n h.0 same (omega (arith, h.2)) h.5, holds_on b (at + length (text a) + 1) ns ms n h.1 same (omega (arith, h.3)) h.6)
 
+-- a part that nothing goes on with, and nodes that were added twice
+pub read_stops : {k m n : ℕ} {s : List ℕ} {at : ℕ} {a : Arena} {p : Part} → Read k m s at a p → Stops n s p.end → Read k n s at a p
+read_stops r h = record { tree = r.tree; good = r.good; low = r.low; spans = r.spans; forth = r.forth; stops = h; holds = r.holds; below = r.below }
+
+pub grown_on : {a b c : Arena} {at d e : ℕ} → Grown a at b d → Grown b d c e → Grown a at c e
+grown_on g h = record {
+  few = omega (arith, g.few, h.few);
+  more = omega (arith, g.more, h.more);
+  same = λ i lt. h.same i (omega (arith, g.more)) ∙ g.same i lt;
+  first = λ f. h.first (g.first f);
+}
+
 -- an operator: what it joins is at most of height k on the left and of height j on the right
 pub record Operator (k j sep : ℕ) (mk : ℕ → ℕ → ℕ → Node) : Type 0 where
   pub join : Tree → Tree → Tree
@@ -43,6 +45,7 @@ pub record Operator (k j sep : ℕ) (mk : ℕ → ℕ → ℕ → Node) : Type 0
   pub low : (a b : Tree) → height (join a b) ≤ k
   pub holds : (a b : Tree) (at : ℕ) (ns : List Node) (i m n : ℕ) → m < i → n < i → node ns i ≡ mk (at + length (text a)) m n → Holds a at ns m → Holds b (at + length (text a) + 1) ns n → Holds (join a b) at ns i
   pub goes : (d : ℕ) → step (have d) sep ≡ want d
+  pub parts : (p m n i : ℕ) → m < i → n < i → Before (mk p m n) i
 
 pub a_times : Operator 1 0 42 (λ p. Times)
 a_times = record {
@@ -52,6 +55,7 @@ a_times = record {
   low = λ a b. omega arith;
   holds = λ a b at ns i m n lm ln is ha hb. (m, n, lm, ln, is, ha, hb);
   goes = times_goes;
+  parts = λ p m n i. before_times i m n;
 }
 
 pub a_plus : Operator 2 1 43 Plus
@@ -62,6 +66,7 @@ a_plus = record {
   low = λ a b. omega arith;
   holds = λ a b at ns i m n lm ln is ha hb. (m, n, lm, ln, is, ha, hb);
   goes = plus_goes;
+  parts = λ p m n i. before_plus i p m n;
 }
 
 -- behind a part stands an operator
@@ -82,17 +87,18 @@ module _ {k j m sep : ℕ} {mk : ℕ → ℕ → ℕ → Node} (o : Operator k j
             (spans_part s at (left.end + 1) right.end (text l.tree ++ (sep ∷ [])) (text r.tree) behind r.spans);
         forth = omega (arith, l.forth, r.forth);
         stops = r.stops;
-        holds = o.holds l.tree r.tree at c.nodes.items root left.root right.root (omega (arith, l.below, g.grown.more, p.place)) (omega (arith, r.below, p.place)) (pushed_here p ∙ ap (λ x. mk x left.root right.root) end)
-            (holds_on l.tree at a.nodes.items c.nodes.items (length a.nodes.items) left.root (λ i h. pushed_same p i (omega (arith, g.grown.more)) ∙ g.grown.same i h) l.below l.holds)
-            (subst (λ x. Holds r.tree x c.nodes.items right.root) place (holds_on r.tree (left.end + 1) b.nodes.items c.nodes.items (length b.nodes.items) right.root (pushed_same p) r.below r.holds));
-        below = omega (arith, p.place, pushed_long p);
+        holds = o.holds l.tree r.tree at c.nodes root left.root right.root (omega (arith, l.below, g.grown.more, p.place)) (omega (arith, r.below, p.place)) (p.here ∙ ap (λ x. mk x left.root right.root) end)
+            (holds_on l.tree at a.nodes c.nodes a.len left.root (λ i h. p.same i (omega (arith, g.grown.more)) ∙ g.grown.same i h) l.below l.holds)
+            (subst (λ x. Holds r.tree x c.nodes right.root) place (holds_on r.tree (left.end + 1) b.nodes c.nodes b.len right.root p.same r.below r.holds));
+        below = omega (arith, p.place, p.len);
       }
 
   pub join_grown : (z b c : Arena) (e : ℕ) (right : Part) (root : ℕ) → Grown z e a left.end → Got j m s (left.end + 1) a b right → Pushed b (mk left.end left.root right.root) c root → Grown z e c right.end
   join_grown z b c e right root h g p = record {
-    few = omega (arith, h.few, g.grown.few, pushed_long p);
-    more = omega (arith, h.more, g.grown.more, pushed_long p);
-    same = λ i lt. pushed_same p i (omega (arith, h.more, g.grown.more)) ∙ g.grown.same i (omega (arith, h.more)) ∙ h.same i lt;
+    few = omega (arith, h.few, g.grown.few, p.len);
+    more = omega (arith, h.more, g.grown.more, p.len);
+    same = λ i lt. p.same i (omega (arith, h.more, g.grown.more)) ∙ g.grown.same i (omega (arith, h.more)) ∙ h.same i lt;
+    first = λ f. pushed_first p (o.parts left.end left.root right.root b.len (omega (arith, l.below, g.grown.more)) g.read.below) (g.grown.first (h.first f));
   }
 
   pub join_failed : (p : ℕ) → Failed (APart j) want s (left.end + 1) p → Failed (APart k) want s at p
@@ -135,7 +141,7 @@ module _ (s : List ℕ) (at : ℕ) (lt : at < length s) (slot : is_slot (get_or 
         let same : e - at - 2 ≡ length (args r.vars) - 1 = omega arith in
         ap (λ x. x / 2) same ∙ args_count r.vars
 
-    pub an_access : (a b : Arena) (root : ℕ) → Pushed a (Access at (get_or s at 0 - 65) (record { place = at + 2; count = (e - at - 2) / 2 })) b root → Got 0 0 s at a b (record { end = e; root = root })
+    pub an_access : (a b : Arena) (root : ℕ) → Pushed a (Access at (get_or s at 0 - 65) ((e - at - 2) / 2)) b root → Got 0 0 s at a b (record { end = e; root = root })
     an_access a b root p = record {
       read = record {
         tree = access (get_or s at 0) r.vars;
@@ -144,10 +150,10 @@ module _ (s : List ℕ) (at : ℕ) (lt : at < length s) (slot : is_slot (get_or 
         spans = spans_part s at (at + 1) e (get_or s at 0 ∷ []) (args r.vars) lettered r.spans;
         forth = omega (arith, r.spans.forth);
         stops = record { times = λ n. absurd (omega arith); plus = λ n. absurd (omega arith) };
-        holds = pushed_here p ∙ ap (λ n. Access at (get_or s at 0 - 65) (record { place = at + 2; count = n })) count;
-        below = omega (arith, p.place, pushed_long p);
+        holds = p.here ∙ ap (Access at (get_or s at 0 - 65)) count;
+        below = omega (arith, p.place, p.len);
       };
-      grown = record { few = omega (arith, pushed_long p, r.spans.forth); more = omega (arith, pushed_long p); same = pushed_same p };
+      grown = record { few = omega (arith, p.len, r.spans.forth); more = omega (arith, p.len); same = p.same; first = pushed_first p (before_access a.len at (get_or s at 0 - 65) ((e - at - 2) / 2)) };
     }
 
 -- a bracket opens at `at`
@@ -182,12 +188,13 @@ module _ (s : List ℕ) (at : ℕ) (lt : at < length s) (is : get_or s at 0 ≡ 
             spans = spans_byte s at inner.end 41 (40 ∷ text r.tree) filled on closes;
             forth = omega (arith, r.forth);
             stops = record { times = λ n. absurd (omega arith); plus = λ n. absurd (omega arith) };
-            holds = (inner.root, omega (arith, r.below, p.place), pushed_here p, holds_on r.tree (at + 1) b.nodes.items c.nodes.items (length b.nodes.items) inner.root (pushed_same p) r.below r.holds);
-            below = omega (arith, p.place, pushed_long p);
+            holds = (inner.root, omega (arith, r.below, p.place), p.here, holds_on r.tree (at + 1) b.nodes c.nodes b.len inner.root p.same r.below r.holds);
+            below = omega (arith, p.place, p.len);
           };
           grown = record {
-            few = omega (arith, g.grown.few, pushed_long p);
-            more = omega (arith, g.grown.more, pushed_long p);
-            same = λ i h. pushed_same p i (omega (arith, g.grown.more)) ∙ g.grown.same i h;
+            few = omega (arith, g.grown.few, p.len);
+            more = omega (arith, g.grown.more, p.len);
+            same = λ i h. p.same i (omega (arith, g.grown.more)) ∙ g.grown.same i h;
+            first = λ f. pushed_first p (before_group b.len at inner.root r.below) (g.grown.first f);
           };
         }

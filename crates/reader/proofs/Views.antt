@@ -2,17 +2,16 @@
 use Rattle.std.proofs.Common.{◌≡◌, ℕ, ◌+◌, ◌-◌, ◌<◌, List, length, sym, subst, arith}
 use Rattle.reader.specs.declared.node.Node.{Node}
 use Rattle.reader.specs.declared.node.Node.TheVariants.{Access, Group, Times, Plus}
-use Rattle.reader.specs.declared.vars.VarList.{VarList}
 use Rattle.model.specs.Grammar.{Tree, access, group, times, plus, text}
 use Rattle.reader.specs.Nodes.{node, Holds}
 
 module _ (P : ℕ → Tree → Type 0) (ns : List Node) (i : ℕ) where
-  pub at_access : (p k : ℕ) (n : VarList) → node ns i ≡ Access p k n → ((l : ℕ) (vs : List ℕ) → l - 65 ≡ k → record { place = p + 2; count = length vs } ≡ n → P p (access l vs)) → (t : Tree) (at : ℕ) → Holds t at ns i → P at t
+  pub at_access : (p k n : ℕ) → node ns i ≡ Access p k n → ((l : ℕ) (vs : List ℕ) → l - 65 ≡ k → length vs ≡ n → P p (access l vs)) → (t : Tree) (at : ℕ) → Holds t at ns i → P at t
   at_access p k n e f (access l vs) at h =
       let y : p ≡ at = cc in
       let x : l - 65 ≡ k = cc in
-      let z : record { place = at + 2; count = length vs } ≡ n = cc in
-      subst (λ q. P q (access l vs)) y (f l vs x (subst (λ q. record { place = q + 2; count = length vs } ≡ n) (sym y) z))
+      let z : length vs ≡ n = cc in
+      subst (λ q. P q (access l vs)) y (f l vs x z)
   at_access p k n e f (group u) at h = let z : ◌≡◌ {A = ℕ} 0 1 = cc h.2 in absurd (omega arith)
   at_access p k n e f (times a b) at h = let z : ◌≡◌ {A = ℕ} 0 1 = cc h.4 in absurd (omega arith)
   at_access p k n e f (plus a b) at h = let z : ◌≡◌ {A = ℕ} 0 1 = cc h.4 in absurd (omega arith)

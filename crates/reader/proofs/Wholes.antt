@@ -1,5 +1,5 @@
 -- From the parts to the line. Assumes nothing.
-use Rattle.std.proofs.Common.{◌≡◌, ℕ, ◌+◌, ◌<◌, ◌≤◌, List, [], ◌∷◌, ◌++◌, length, get_or, sym, refl, ap, ◌∙◌, subst, inr, arith, length-append}
+use Rattle.std.proofs.Common.{◌≡◌, ℕ, ◌+◌, ◌<◌, ◌≤◌, List, [], ◌∷◌, ◌++◌, length, take, get_or, sym, refl, ap, ◌∙◌, subst, inr, arith, length-append}
 use Rattle.std.proofs.lemmas.List.{append-nil, append_assoc, take_all}
 use Rattle.reader.specs.declared.arena.Arena.{Arena}
 use Rattle.reader.specs.declared.parsing.Part.{Part}
@@ -7,9 +7,11 @@ use Rattle.model.specs.Grammar.{access, names, args, text, IsLine}
 use Rattle.reader.specs.Walk.{start, bracket, equals, want, have, tail, run, Open}
 use Rattle.model.specs.Conditions.{Ungrammatical}
 use Rattle.reader.specs.Reader.{Spans, Args, Head, Order, Failed, AnArgs, ATail, AHead, APart}
+use Rattle.reader.specs.Order.{PartsFirst}
 use Rattle.reader.specs.Parts.{Got}
 use Rattle.reader.specs.Whole.{Parses}
 use Rattle.reader.proofs.Walks.{then, no_start, no_equals, no_end, by_args, by_tree, refuse}
+use Rattle.reader.proofs.Ordered.{parts_first}
 use Rattle.reader.proofs.Fails.{spans_none, spans_byte, spans_part, spans_length, fails_here, fails_in}
 
 -- "R" args "="
@@ -112,7 +114,7 @@ module _ (s : List ℕ) (short : length s ≤ 256) where
             ))
             (λ u. then start (have 0) f (59 ∷ []) sums) x)
 
-        pub a_line : a.nodes.items ≡ [] → Order s (p.end + 1) → Parses s (record { arena = b; root = p.root; body = e; order = p.end + 1 })
+        pub a_line : a.len ≡ 0 → Order s (p.end + 1) → Parses s (record { arena = b; root = p.root; body = e; order = p.end + 1 })
         a_line none y =
             let r = g.read in
             let f : List ℕ = ((82 ∷ args h.vars) ++ (61 ∷ [])) ++ text r.tree in
@@ -128,7 +130,10 @@ module _ (s : List ℕ) (short : length s ≤ 256) where
                 body = from;
                 order = omega (arith, from, spans_length s e p.end (text r.tree) r.spans);
                 below = r.below;
-                room = omega (arith, g.grown.few, r.spans.within, ap length none);
+                room = omega (arith, g.grown.few, r.spans.within, none);
                 holds = r.holds;
               },
             )
+
+        pub ordered_line : a.len ≡ 0 → PartsFirst (take b.len b.nodes)
+        ordered_line none = parts_first b (g.grown.first (λ i lt. absurd (omega (arith, none))))

@@ -4,13 +4,15 @@ use Rattle.reader.specs.declared.arena.Arena.{Arena}
 use Rattle.reader.specs.declared.parsing.Part.{Part}
 use Rattle.model.specs.Grammar.{Tree, text, height, Grammatical}
 use Rattle.reader.specs.Reader.{Spans}
+use Rattle.reader.specs.Order.{Ordered}
 use Rattle.reader.specs.Nodes.{node, Holds}
 
 -- from `at` to e, nodes were added behind the old ones, at most as many as bytes were read
 pub record Grown (old : Arena) (at : ℕ) (new : Arena) (e : ℕ) : Type 0 where
-  pub few : length new.nodes.items + at ≤ length old.nodes.items + e
-  pub more : length old.nodes.items ≤ length new.nodes.items
-  pub same : (i : ℕ) → i < length old.nodes.items → node new.nodes.items i ≡ node old.nodes.items i
+  pub few : new.len + at ≤ old.len + e
+  pub more : old.len ≤ new.len
+  pub same : (i : ℕ) → i < old.len → node new.nodes i ≡ node old.nodes i
+  pub first : Ordered old → Ordered new
 
 -- neither of the operators of height m or below stands at e
 pub record Stops (m : ℕ) (s : List ℕ) (e : ℕ) : Type 0 where
@@ -25,8 +27,8 @@ pub record Read (k m : ℕ) (s : List ℕ) (at : ℕ) (new : Arena) (p : Part) :
   pub spans : Spans s at p.end (text tree)
   pub forth : at < p.end
   pub stops : Stops m s p.end
-  pub holds : Holds tree at new.nodes.items p.root
-  pub below : p.root < length new.nodes.items
+  pub holds : Holds tree at new.nodes p.root
+  pub below : p.root < new.len
 
 pub record Got (k m : ℕ) (s : List ℕ) (at : ℕ) (old new : Arena) (p : Part) : Type 0 where
   pub read : Read k m s at new p

@@ -2,15 +2,13 @@
 ghost use Rattle.std.specs.Prelude.{◌≡◌};
 ghost use Rattle.reader.specs.declared.node.Node.TheVariants.{Access};
 
-use crate::vars::VarList;
-
 #[derive(Clone, Copy)]
 pub enum Node {
-    // The place of its letter in the line, the slot that it names, and its variables.
+    // The place of its letter in the line, the slot that it names, and how many variables it has.
     Access {
         place: usize,
         slot: usize,
-        vars: VarList,
+        vars: usize,
     },
     // The place of its bracket.
     Group {
@@ -31,13 +29,13 @@ pub enum Node {
 
 // What stands where there is no node.
 impl Default for Node {
-    ghost is_default = { λ x. x ≡ Access 0 0 (record { place = 0; count = 0 }) };
+    ghost is_default = { λ x. x ≡ Access 0 0 0 };
 
     fn default() -> Node {
         Node::Access {
             place: 0,
             slot: 0,
-            vars: VarList { place: 0, count: 0 },
+            vars: 0,
         }
     }
 }

@@ -1,8 +1,9 @@
 // Sums, products and factors, which call each other, and the whole line.
-ghost use Rattle.std.specs.Prelude.{◌≤◌, length, MatchResult};
+ghost use Rattle.std.specs.Prelude.{◌≤◌, length, take, IfOk, MatchResult};
 ghost use Rattle.model.specs.Conditions.{Ungrammatical};
 ghost use Rattle.reader.specs.Walk.{want};
 ghost use Rattle.reader.specs.Reader.{Failed, APart};
+ghost use Rattle.reader.specs.Order.{PartsFirst};
 ghost use Rattle.reader.specs.Parts.{Got};
 ghost use Rattle.reader.specs.Whole.{Parses};
 
@@ -10,7 +11,6 @@ use crate::arena::Arena;
 use crate::faults::GrammarFault;
 use crate::node::Node;
 use crate::scan::Text;
-use crate::vars::VarList;
 
 // A part that was read: where it ends, and its node.
 #[derive(Clone, Copy)]
@@ -23,7 +23,7 @@ struct Part {
 #[cycle(factor_prod_sum)]
 fn sum(text: Text<'_>, at: usize, arena: &mut Arena) -> Result<Part, GrammarFault>
     requires within { at ≤ length text.bytes.now }
-    requires room { length arena.old.nodes.items ≤ at }
+    requires room { arena.old.len ≤ at }
     ensures { MatchResult result (Got 2 2 text.entry.bytes.now at arena.old arena.new) (λ f. Failed (APart 2) want text.entry.bytes.now at f.place) }
 {
     let mut left = prod(text, at, arena)?;
@@ -45,7 +45,7 @@ fn sum(text: Text<'_>, at: usize, arena: &mut Arena) -> Result<Part, GrammarFaul
 #[cycle(factor_prod_sum)]
 fn prod(text: Text<'_>, at: usize, arena: &mut Arena) -> Result<Part, GrammarFault>
     requires within { at ≤ length text.bytes.now }
-    requires room { length arena.old.nodes.items ≤ at }
+    requires room { arena.old.len ≤ at }
     ensures { MatchResult result (Got 1 1 text.entry.bytes.now at arena.old arena.new) (λ f. Failed (APart 1) want text.entry.bytes.now at f.place) }
 {
     let mut left = factor(text, at, arena)?;
@@ -66,7 +66,7 @@ fn prod(text: Text<'_>, at: usize, arena: &mut Arena) -> Result<Part, GrammarFau
 #[cycle(factor_prod_sum)]
 fn factor(text: Text<'_>, at: usize, arena: &mut Arena) -> Result<Part, GrammarFault>
     requires within { at ≤ length text.bytes.now }
-    requires room { length arena.old.nodes.items ≤ at }
+    requires room { arena.old.len ≤ at }
     ensures { MatchResult result (Got 0 0 text.entry.bytes.now at arena.old arena.new) (λ f. Failed (APart 0) want text.entry.bytes.now at f.place) }
 {
     if text.sees_slot(at) {
@@ -75,10 +75,7 @@ fn factor(text: Text<'_>, at: usize, arena: &mut Arena) -> Result<Part, GrammarF
         let root = arena.push(Node::Access {
             place: at,
             slot: (text.bytes[at] - b'A') as usize,
-            vars: VarList {
-                place: at + 2,
-                count: (end - at - 2) / 2,
-            },
+            vars: (end - at - 2) / 2,
         });
         return Ok(Part { end, root });
     }
@@ -96,7 +93,7 @@ fn factor(text: Text<'_>, at: usize, arena: &mut Arena) -> Result<Part, GrammarF
 }
 
 // A line: where its right side and its loop order begin, and the tree of the right side.
-#[derive(Drop)]
+#[derive(Clone, Copy)]
 pub struct Parsed {
     pub arena: Arena,
     pub root: usize,
@@ -106,7 +103,8 @@ pub struct Parsed {
 
 // The tree of a line, or the place at which it stops being one.
 pub fn parse(text: &[u8]) -> Result<Parsed, GrammarFault>
-    ensures { MatchResult result (Parses text.now) (λ f. Ungrammatical text.now f.place) }
+    ensures tree { MatchResult result (Parses text.now) (λ f. Ungrammatical text.now f.place) }
+    ensures ordered { IfOk result (λ p. PartsFirst (take p.arena.len p.arena.nodes)) }
 {
     if text.len() > 256 {
         return Err(GrammarFault { place: 256 });

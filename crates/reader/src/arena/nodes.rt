@@ -1,51 +1,51 @@
 // Adding nodes and looking them up.
-ghost use Rattle.std.specs.Prelude.{◌≡◌, ◌<◌, ◌≤◌, min, [], length, Decides};
-ghost use Rattle.reader.specs.Order.{Before, PartsFirst};
+ghost use Rattle.std.specs.Prelude.{◌≡◌, ◌<◌, min, length, ℕ, Decides};
+ghost use Rattle.std.specs.Option.{MatchOption};
+ghost use Rattle.reader.specs.Order.{Before};
 ghost use Rattle.reader.specs.Nodes.{node as node_at, Pushed};
 
 use crate::arena::Arena;
 use crate::node::Node;
-use arrayvec::ArrayVec;
 
 impl Arena {
     pub(crate) fn new() -> Arena
-        ensures { result.nodes.items ≡ [] }
+        ensures { result.len ≡ 0 }
     {
         Arena {
-            nodes: ArrayVec::new(),
+            nodes: [Node::default(); 256],
+            len: 0,
         }
     }
 
     pub(crate) fn push(&mut self, node: Node) -> usize
-        requires room { length self.old.nodes.items < 256 }
-        requires parts { Before node (length self.old.nodes.items) }
+        requires { self.old.len < 256 }
         ensures { Pushed self.old node self.new result }
     {
-        let at = self.nodes.len();
-        self.nodes.push(node);
+        let at = self.len;
+        self.nodes[at] = node;
+        self.len = at + 1;
         at
     }
 
-    // An arena of any nodes, as many as there is room for: one whose parts do not stand before it is put in as one of no variables.
+    // An arena of any nodes, as they are and as many as there is room for.
     pub fn of(nodes: &[Node]) -> Arena
-        ensures kept { length nodes.now ≤ 256 → PartsFirst nodes.now → result.nodes.items ≡ nodes.now }
-        ensures many { length result.nodes.items ≡ min (length nodes.now) 256 }
+        ensures kept { (i : ℕ) → i < result.len → node_at result.nodes i ≡ node_at nodes.now i }
+        ensures many { result.len ≡ min (length nodes.now) 256 }
     {
         let mut arena = Arena::new();
         let many = nodes.len().min(256);
-        for (i, node) in nodes[..many].iter().enumerate() {
-            let behind = stands_behind(*node, i);
-            arena.push(if behind { *node } else { Node::default() });
+        for node in &nodes[..many] {
+            arena.push(*node);
         }
         arena
     }
 
-    // The node at a place, whose parts stand before it; one of no variables where there is none.
-    pub fn node(&self, at: usize) -> Node
-        ensures value { result ≡ node_at self.now.nodes.items at }
-        ensures before { Before result at }
+    // The node at a place, where its parts stand before it; past the end one of no variables.
+    pub fn node(&self, at: usize) -> Option<Node>
+        ensures { MatchOption result (Before (node_at self.now.nodes at) at → ⊥) (λ x. (x ≡ node_at self.now.nodes at) × Before x at) }
     {
-        self.nodes.as_slice().get(at).copied().unwrap_or_default()
+        let node = self.nodes.get(at).copied().unwrap_or_default();
+        stands_behind(node, at).then_some(node)
     }
 }
 

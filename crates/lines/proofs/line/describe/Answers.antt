@@ -1,5 +1,5 @@
 use Rattle.std.proofs.Common.{arith}
-use Rattle.lines.proofs.Describing.{left_described, order_described, table_described}
+use Rattle.lines.proofs.Describing.{left_described, order_described, table_described, table_room}
 use Rattle.lines.proofs.Placing.{line_length}
 use Rattle.lines.proofs.line.describe.Goals as goal
 
@@ -10,7 +10,8 @@ pub returns : goal.returns
 returns c = λ l h g.
     record {
       stands = g;
-      left = left_described c.args.text.now c.args.parsed l h g;
-      order = order_described c.args.text.now c.args.parsed l h g;
-      table = table_described c.args.text.now c.args.parsed l h g _ _ c.new-accesses.ensures c.collect.ensures;
+      left = left_described c.args.text.now c.args.parsed.now l h g;
+      order = order_described c.args.text.now c.args.parsed.now l h g;
+      table = table_described c.args.text.now c.args.parsed.now l h g _ _ c.new-accesses.ensures c.collect.ensures;
+      room = table_room c.args.text.now c.args.parsed.now l h g _ _ c.new-accesses.ensures c.collect.ensures;
     }

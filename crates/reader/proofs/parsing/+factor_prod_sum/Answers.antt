@@ -1,6 +1,6 @@
 use Rattle.std.proofs.Common.{arith}
 use Rattle.std.proofs.lemmas.Result.{err_from_is_err_and}
-use Rattle.reader.proofs.Parts.{pushed_long, a_times, a_plus, join_read, join_grown, join_failed, no_factor, in_access, an_access, in_group, unclosed, a_group}
+use Rattle.reader.proofs.Parts.{read_stops, grown_on, a_times, a_plus, join_read, join_grown, join_failed, no_factor, in_access, an_access, in_group, unclosed, a_group}
 use Rattle.reader.proofs.parsing.+factor_prod_sum.Goals as goal
 
 pub factor-returns-in_err-end : goal.factor-returns-in_err-end
@@ -52,7 +52,7 @@ prod-factors-preserved t c =
     let i = c.factors.invariant in (
       join_read a_times _ _ _ _ i.0 o.0 o.1 _ _ _ _ g c.push-root.ensures,
       join_grown a_times _ _ _ _ i.0 o.0 o.1 _ _ _ _ _ _ i.1 g c.push-root.ensures,
-      omega (arith, i.2, g.grown.few, pushed_long c.push-root.ensures),
+      omega (arith, i.2, g.grown.few, c.push-root.ensures.len),
     )
 
 pub sum-returns-in_err-right : goal.sum-returns-in_err-right
@@ -68,5 +68,21 @@ sum-terms-preserved t c =
     let i = c.terms.invariant in (
       join_read a_plus _ _ _ _ i.0 o.0 o.1 _ _ _ _ g c.push-root.ensures,
       join_grown a_plus _ _ _ _ i.0 o.0 o.1 _ _ _ _ _ _ i.1 g c.push-root.ensures,
-      omega (arith, i.2, g.grown.few, pushed_long c.push-root.ensures),
+      omega (arith, i.2, g.grown.few, c.push-root.ensures.len),
     )
+
+pub prod-returns : goal.prod-returns
+prod-returns t c =
+    let i = c.factors.invariant in
+    record {
+      read = read_stops i.0 (record { times = λ n. c.factors-test.ensures; plus = λ n. absurd (omega arith) });
+      grown = grown_on c.in_ok-left.ensures.grown i.1;
+    }
+
+pub sum-returns : goal.sum-returns
+sum-returns t c =
+    let i = c.terms.invariant in
+    record {
+      read = read_stops i.0 (record { times = λ n. i.0.stops.times (omega arith); plus = λ n. c.terms-test.ensures });
+      grown = grown_on c.in_ok-left.ensures.grown i.1;
+    }

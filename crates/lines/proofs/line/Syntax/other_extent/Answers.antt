@@ -4,4 +4,4 @@ use Rattle.lines.proofs.Rules.{extents_rule}
 use Rattle.lines.proofs.line.Syntax.other_extent.Goals as goal
 
 pub returns : goal.returns
-returns c = λ l h d. extents_rule c.args.text.now c.args.self.now l h d (slots_of c.args.slots.now) _ (rw (sym c.as_slice.ensures.value) c.first_differing.ensures)
+returns c = λ l h d. extents_rule c.args.text.now c.args.self.now l h d (slots_of c.args.slots.now) _ (rw (sym c.as_slice.ensures) c.first_differing.ensures)

@@ -1,9 +1,7 @@
-use Rattle.std.proofs.Common.{◌≡◌, length, take}
-use Rattle.reader.specs.Order.{PartsFirst}
+use Rattle.std.proofs.Common.{◌≡◌, ℕ, ◌<◌}
+use Rattle.reader.specs.Nodes.{node}
 use Rattle.reader.proofs.arena.Arena.of.Given as goal
 
--- as many as were taken, and where their parts stand first they are those
-abbrev pub invariant-loop-i : goal.invariant-loop-i
-invariant-loop-i l =
-    (length l.arena.nodes.items ≡ l.i)
-    × (PartsFirst l.nodes → l.arena.nodes.items ≡ take l.i l.nodes)
+-- as many as were taken, and each as it was
+abbrev pub invariant-loop-node : goal.invariant-loop-node
+invariant-loop-node l = (l.arena.len ≡ l.node-index) × ((j : ℕ) → j < l.arena.len → node l.arena.nodes j ≡ node l.nodes j)
