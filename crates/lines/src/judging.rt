@@ -1,7 +1,8 @@
 // The conditions of a line, each by its first place at fault, and the line read as a whole.
-ghost use Rattle.std.specs.Prelude.{IfOk, Some, None};
+ghost use Rattle.std.specs.Prelude.{IfOk, Some, None, take};
 ghost use Rattle.std.specs.Result.{MatchResult};
 ghost use Rattle.model.specs.Conditions.{over_limits, wrong_access, uneven, other_extent, wrong_order, out_of_order, judged, Refuses};
+ghost use Rattle.reader.specs.Order.{PartsFirst};
 ghost use Rattle.lines.specs.Given.{slots_of};
 ghost use Rattle.lines.specs.Faults.{fault_of};
 ghost use Rattle.lines.specs.Describes.{Described};
@@ -96,6 +97,7 @@ impl Syntax {
 pub fn read_line(text: &[u8], slots: &Slots) -> Result<Syntax, LineFault>
     ensures read { MatchResult result (ReadsLine (slots_of slots.now) text.now) (λ f. Refuses (slots_of slots.now) text.now (fault_of f)) }
     ensures rooted { IfOk result Rooted }
+    ensures ordered { IfOk result (λ x. PartsFirst (take x.parsed.arena.len x.parsed.arena.nodes)) }
 {
     let line = match parse(text) {
         Ok(parsed) => describe(text, &parsed),

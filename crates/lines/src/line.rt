@@ -1,4 +1,5 @@
 // A line that was read.
+ghost use Rattle.std.specs.Prelude.{◌≡◌};
 ghost use Rattle.reader.specs.Whole.{Parses, Stands};
 ghost use Rattle.model.specs.Grammar.{Syntax as Line};
 ghost use Rattle.model.specs.Conditions.{Spells};
@@ -18,7 +19,8 @@ pub struct Syntax {
 
 pub(crate) fn describe(text: &[u8], parsed: &Parsed) -> Syntax
     requires { Parses text.now parsed.now }
-    ensures { (l : Line) → Spells text.now l → Stands parsed.now l → Describes result l }
+    ensures described { (l : Line) → Spells text.now l → Stands parsed.now l → Describes result l }
+    ensures kept { result.parsed ≡ parsed.now }
 {
     let mut accesses = Accesses::new();
     collect(&parsed.arena, parsed.root, &mut accesses);

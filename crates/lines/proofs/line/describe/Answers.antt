@@ -6,8 +6,8 @@ use Rattle.lines.proofs.line.describe.Goals as goal
 pub overflow_sub-order : goal.overflow_sub-order
 overflow_sub-order c = let p = c.requires in omega (arith, p.2.order, line_length c.args.text.now p.0 p.1)
 
-pub returns : goal.returns
-returns c = λ l h g.
+pub returns-clause-described : goal.returns-clause-described
+returns-clause-described c = λ l h g.
     record {
       stands = g;
       left = left_described c.args.text.now c.args.parsed.now l h g;
