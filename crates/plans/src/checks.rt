@@ -4,6 +4,7 @@ ghost use Rattle.model.specs.Conditions.{first_fault};
 ghost use Rattle.model.specs.Stores.{outside, after, entry_checks};
 ghost use Rattle.plans.specs.Rows.{rows_in, row_in, prior_row};
 
+use crate::comparing::comes_before;
 use crate::rows::Rows;
 
 impl<'a> Rows<'a> {
@@ -21,7 +22,7 @@ impl<'a> Rows<'a> {
         ensures { result ≡ (outside extents.now (row_in self.now k) || not (after (prior_row self.now.rank self.now.coordinates.now k) (row_in self.now k))) }
     {
         let this = self.row(k);
-        is_outside(extents, this) || k > 0 && self.row(k - 1) >= this
+        is_outside(extents, this) || k > 0 && !comes_before(self.row(k - 1), this)
     }
 }
 

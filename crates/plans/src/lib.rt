@@ -2,6 +2,8 @@
 #![tactic(auto)]
 
 mod checks;
+mod comparing;
+mod coordinates;
 mod fault;
 mod fronts;
 mod planning;
@@ -11,7 +13,9 @@ mod rows;
 mod shape;
 mod sizing;
 
+pub use coordinates::coordinate;
 pub use fault::StoreFault;
+pub use fronts::ends_front;
 pub use planning::plan;
 pub use request::StoreRequest;
 pub use rows::Rows;

@@ -2,6 +2,7 @@
 ghost use Rattle.std.specs.Prelude.{◌≡◌, ◌*◌, ◌<◌, length, slice_index, MatchOption, ◌≢◌};
 ghost use Rattle.plans.specs.Rows.{row_in};
 
+use crate::coordinates::{coordinate, row_at};
 use crate::rows::Rows;
 
 impl<'a> Rows<'a> {
@@ -23,8 +24,7 @@ impl<'a> Rows<'a> {
         requires { k < self.now.count }
         ensures { (result.now ≡ row_in self.now k) × (length result.now ≡ self.now.rank) }
     {
-        let from = self.rank * k;
-        &self.coordinates[from..from + self.rank]
+        row_at(self.coordinates, self.rank, k)
     }
 
     // The coordinate of row k at this depth.
@@ -33,6 +33,6 @@ impl<'a> Rows<'a> {
         requires deep { depth < self.now.rank }
         ensures { result ≡ slice_index (row_in self.now k) depth }
     {
-        self.row(k)[depth]
+        coordinate(self.coordinates, self.rank, k, depth)
     }
 }
