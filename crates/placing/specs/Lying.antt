@@ -1,6 +1,5 @@
 -- Where a tensor's levels and values lie in areas of which each slot has a part, and what is answered to who asks.
 use Rattle.std.specs.Prelude.{◌≡◌, ℕ, ◌+◌, ◌-◌, ◌*◌, ◌<◌, ◌≤◌, min, List, [], get_or, take, drop, Some, None, Option, slice_index_or}
-use Rattle.std.specs.declared.ops.Range.{Range}
 use Rattle.model.specs.Fibers.{Level}
 use Rattle.model.specs.Formats.{LevelSize}
 use Rattle.model.specs.Stores.{FormatRules}
@@ -10,6 +9,7 @@ use Rattle.slots.specs.Records.{sizes, level_of}
 use Rattle.slots.specs.declared.records.TensorRecord.{TensorRecord}
 use Rattle.plans.specs.Rooms.{level_size}
 use Rattle.placing.specs.declared.places.PlacedLevel.{PlacedLevel}
+use Rattle.placing.specs.declared.places.PlacedValues.{PlacedValues}
 
 module _ (rules : FormatRules) (meaning : ℕ → LevelSize → List ℕ → Level) (size slot : ℕ) where
   -- A level of a tensor in a slot: which it is, and that its words mean what the slot's part means there, whatever the words of the area.
@@ -29,7 +29,7 @@ module _ (rules : FormatRules) (meaning : ℕ → LevelSize → List ℕ → Lev
 
 module _ (P : Type 0) (size slot : ℕ) where
   -- The values of a tensor in a slot: where they start and end, and that they are those of the slot's part, whatever the values of the area.
-  pub record ValuesLie (t : TensorRecord) (p : Range ℕ) : Type 0 where
+  pub record ValuesLie (t : TensorRecord) (p : PlacedValues) : Type 0 where
     pub starts : p.start ≡ slot * size
     pub ends : p.end ≡ p.start + min t.positions size
     pub ordered : p.start ≤ p.end
@@ -37,7 +37,7 @@ module _ (P : Type 0) (size slot : ℕ) where
     pub reads : (vs : List P) → take (p.end - p.start) (drop p.start vs) ≡ take t.positions (part slot size vs)
 
   -- none exactly if the slot is empty
-  abbrev pub ValuesAnswer : Option TensorRecord → Option (Range ℕ) → Type 0
+  abbrev pub ValuesAnswer : Option TensorRecord → Option PlacedValues → Type 0
   ValuesAnswer None None = Unit {0}
   ValuesAnswer None (Some p) = ⊥
   ValuesAnswer (Some t) None = ⊥

@@ -5,7 +5,7 @@ ghost use Rattle.slots.specs.Records.{slot_list, sizes};
 ghost use Rattle.plans.specs.Rooms.{rules_of};
 ghost use Rattle.placing.specs.Lying.{LevelLies, LevelAnswer};
 
-use crate::places::PlacedLevel;
+use crate::places::{PlacedLevel, PlacedWords};
 use levels::Formats;
 use slots::{SlotNumber, SlotSizes, Slots, TensorRecord};
 
@@ -37,7 +37,10 @@ fn place_level<S: Formats>(
     let through = words_of::<S>(tensor, level + 1, room.level_words);
     PlacedLevel {
         record: tensor.levels[level],
-        words: part + before..part + through,
+        words: PlacedWords {
+            start: part + before,
+            end: part + through,
+        },
     }
 }
 

@@ -6,5 +6,5 @@ mod places;
 mod value_places;
 
 pub use level_words::level_at;
-pub use places::PlacedLevel;
+pub use places::{PlacedLevel, PlacedValues, PlacedWords};
 pub use value_places::values_at;
