@@ -5,7 +5,6 @@ ghost use Rattle.levels.specs.Stored.{level_of};
 
 use crate::family::Formats;
 use crate::stored::StoredLevel;
-use std::cmp::Ordering;
 
 impl StoredLevel<'_> {
     // How many coordinates fiber p has; none where there is no such fiber.
@@ -33,11 +32,14 @@ impl StoredLevel<'_> {
         let mut high = self.fiber_len::<S>(p);
         while low < high {
             let middle = low + (high - low) / 2;
-            let (coordinate, found) = self.item::<S>(p, middle);
-            match coordinate.cmp(&c) {
-                Ordering::Less => low = middle + 1,
-                Ordering::Equal => return Some(found),
-                Ordering::Greater => high = middle,
+            let (coordinate, found) = S::at(self.number, self.size, self.words, p, middle)?;
+            if coordinate == c {
+                return Some(found);
+            }
+            if coordinate < c {
+                low = middle + 1;
+            } else {
+                high = middle;
             }
         }
         None
