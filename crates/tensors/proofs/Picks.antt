@@ -217,8 +217,8 @@ coordinates_paired : (xs : List Entry) → coordinates_of xs ≡ map (λ x. x.1)
 coordinates_paired [] = refl
 coordinates_paired (e ∷ xs) = ap (λ (z : List ℕ). e.coordinate ∷ z) (coordinates_paired xs)
 
-pub picked_owners : (xs ys : List Entry) (ps : List (ℕ × ℕ)) → xs ≡ ys → map pair_of ys ≡ ps → owners_of xs ≡ map (λ x. x.0) ps
-picked_owners xs ys ps a b = ap owners_of a ∙ owners_paired ys ∙ ap (map (λ x. x.0)) b
+pub picked_owners : (xs : List Entry) (ps : List (ℕ × ℕ)) → map pair_of xs ≡ ps → owners_of xs ≡ map (λ x. x.0) ps
+picked_owners xs ps is = owners_paired xs ∙ ap (map (λ x. x.0)) is
 
-pub picked_coordinates : (xs ys : List Entry) (ps : List (ℕ × ℕ)) → xs ≡ ys → map pair_of ys ≡ ps → coordinates_of xs ≡ map (λ x. x.1) ps
-picked_coordinates xs ys ps a b = ap coordinates_of a ∙ coordinates_paired ys ∙ ap (map (λ x. x.1)) b
+pub picked_coordinates : (xs : List Entry) (ps : List (ℕ × ℕ)) → map pair_of xs ≡ ps → coordinates_of xs ≡ map (λ x. x.1) ps
+picked_coordinates xs ps is = coordinates_paired xs ∙ ap (map (λ x. x.1)) is

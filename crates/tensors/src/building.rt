@@ -14,7 +14,7 @@ ghost use Rattle.slots.specs.Records.{sizes};
 ghost use Rattle.tensors.specs.Fillings.{Owners, Added, Raised};
 ghost use Rattle.tensors.specs.Planned.{Measured};
 
-use crate::lists::pick;
+use crate::lists::{MAX_ENTRIES, pick};
 use crate::stored::stored;
 use crate::tensor_plan::TensorPlan;
 use formats::Entry;
@@ -63,8 +63,9 @@ fn add_level<S: Formats>(
     requires room { start + S.wants level.format (size_of level.size) ≤ length words.old }
     ensures { Added (S.wants level.format (size_of level.size)) (S.kept level.format (size_of level.size)) (S.meaning level.format (size_of level.size)) depth start (rows_in plan.now.rows) owners.old words.old owners.new words.new }
 {
-    let entries = pick(&plan.rows, depth, owners);
-    build::<S>(level, &entries, &mut words[start..]);
+    let mut scratch = [Entry::default(); MAX_ENTRIES];
+    let entries = pick(&plan.rows, depth, owners, &mut scratch);
+    build::<S>(level, entries, &mut words[start..]);
     let need = S::need(level.format, level.size);
     descend::<S>(
         stored(level, &words[start..start + need]),

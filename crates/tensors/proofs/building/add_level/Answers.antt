@@ -18,8 +18,8 @@ build-requires-clause-lists g c =
     let p = c.args.plan.now in
     let es = p.extents.now in
     let css = rows_in p.rows in
-    listed_by (size_of c.args.level.size) _ _ _ _ (picked_owners c.deref.result.now c.pick-entries.result.items _ c.deref.ensures.0 c.pick-entries.ensures)
-    (picked_coordinates c.deref.result.now c.pick-entries.result.items _ c.deref.ensures.0 c.pick-entries.ensures)
+    listed_by (size_of c.args.level.size) _ _ _ _ (picked_owners c.pick-entries.result.now _ c.pick-entries.ensures.entries)
+    (picked_coordinates c.pick-entries.result.now _ c.pick-entries.ensures.entries)
     (picked_listed c.args.depth es c.args.level.size.fibers c.requires.deep c.args.owners.now css c.requires.owned (ordered_checked es css p.ordered)
     (size_of c.args.level.size) c.requires.extent refl c.requires.entries)
 
@@ -49,8 +49,8 @@ descend-requires-clause-held g c =
     let all = rows_long r.rank r.count r.coordinates.now in
     let held = row_held d c.args.level.size.fibers os css c.requires.owned
     (λ m i. omega (arith, c.requires.deep, row_long es (get_or css m []) (All-get_or (λ cs. outside es cs ≡ false) css m [] i o.within)))
-    (M (take want ys)) asc _ _ (picked_owners c.deref.result.now c.pick-entries.result.items _ c.deref.ensures.0 c.pick-entries.ensures)
-    (picked_coordinates c.deref.result.now c.pick-entries.result.items _ c.deref.ensures.0 c.pick-entries.ensures) b.held k (omega (arith, all, c.requires.paired)) in
+    (M (take want ys)) asc _ _ (picked_owners c.pick-entries.result.now _ c.pick-entries.ensures.entries)
+    (picked_coordinates c.pick-entries.result.now _ c.pick-entries.ensures.entries) b.held k (omega (arith, all, c.requires.paired)) in
     (held.0, ap (λ x. child (fiber (M (take want ys)) (get_or os k 0)) (get_or x d 0)) (sym (rows_at r.rank r.count r.coordinates.now k (omega (arith, c.requires.paired)))) ∙ held.1))
 
 pub returns : goal.returns

@@ -1,5 +1,4 @@
-use Rattle.std.proofs.Common.{◌≡◌, ◌≤◌, ◌++◌, map, drop}
-use Rattle.arrayvec.specs.ArrayVec.{array_vec_len}
+use Rattle.std.proofs.Common.{◌≡◌, ◌≤◌, ◌++◌, map, take, drop}
 use Rattle.plans.specs.Rows.{rows_in}
 use Rattle.tensors.specs.Fillings.{picked, pair_of}
 use Rattle.tensors.proofs.lists.pick.Given as goal
@@ -8,4 +7,4 @@ use Rattle.tensors.proofs.lists.pick.Given as goal
 abbrev pub invariant-loop-k : goal.invariant-loop-k
 invariant-loop-k l =
     let css = rows_in l.rows in
-    (array_vec_len l.entries ≤ l.k) × (map pair_of l.entries.items ++ picked l.depth (drop l.k l.owners) (drop l.k css) ≡ picked l.depth l.owners css)
+    (l.n ≤ l.k) × (map pair_of (take l.n l.entries) ++ picked l.depth (drop l.k l.owners) (drop l.k css) ≡ picked l.depth l.owners css)
