@@ -21,15 +21,16 @@ position_total : (t : ℕ) (ds : List Dock) → position_or_len (takes t) ds ≡
 position_total t [] = refl
 position_total t (d ∷ ds) = ap (λ n. cond (not (takes t d)) (1 + n) 0) (position_total t ds)
 
-length_totals : (ds : List Dock) → length ds ≡ length (totals (map entry_of ds))
-length_totals ds = sym (length-map (map entry_of ds) (λ e. e.leg_in + e.leg_out) ∙ length-map ds entry_of)
+module _ (ds : List Dock) (es : List Entry) (same : map entry_of ds ≡ es) where
+  pub length_totals : length (totals es) ≡ length ds
+  length_totals = length-map es (λ e. e.leg_in + e.leg_out) ∙ ap length (sym same) ∙ length-map ds entry_of
 
 abbrev at_most : ℕ → ℕ → Option ℕ
 at_most n l = cond (ltb n l) (Some n) None
 
 same_position : (t : ℕ) (ds : List Dock) → position (takes t) ds ≡ position (is_total t) (totals (map entry_of ds))
 same_position t ds =
-    ap (λ n. at_most n (length ds)) (position_total t ds) ∙ ap (at_most (position_or_len (is_total t) (totals (map entry_of ds)))) (length_totals ds)
+    ap (λ n. at_most n (length ds)) (position_total t ds) ∙ ap (at_most (position_or_len (is_total t) (totals (map entry_of ds)))) (sym (length_totals ds (map entry_of ds) refl))
 
 module _ (ts : List ℕ) (t : ℕ) (least : Least ts t) where
   pub no_time : t ≡ 4294967295 → FirstLeast ts None

@@ -1,5 +1,6 @@
 pub mod Bests
 pub mod Cuts
+pub mod Holds
 pub mod Meanings
 pub mod Rows
 pub mod Sofar

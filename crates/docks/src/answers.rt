@@ -71,5 +71,6 @@ pub fn best_dock(table: &Table) -> Option<usize>
     if least.is_zero() {
         return None;
     }
-    table.docks().iter().position(|dock| dock.time() == least)
+    let i = table.docks().iter().position(|dock| dock.time() == least)?;
+    Some(i)
 }

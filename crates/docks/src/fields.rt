@@ -8,6 +8,9 @@ use crate::bytes::{capped_decimal, cut, is_name_byte};
 use crate::fault::TableFault;
 use semiring::{Semiring, Time};
 
+// The time of what does not run.
+pub const NONE: u32 = u32::MAX;
+
 fn is_number(field: &[u8]) -> bool
     ensures { result ≡ is_number field.now }
 {
@@ -30,11 +33,11 @@ pub(crate) fn read_leg(field: &[u8]) -> Result<Time, TableFault>
     if !is_number(field) {
         return Err(TableFault::Number);
     }
-    let time = Time::new(capped_decimal(field));
-    if time.is_zero() {
+    let time = capped_decimal(field);
+    if time == NONE {
         return Err(TableFault::TooLarge);
     }
-    Ok(time)
+    Ok(Time::new(time))
 }
 
 // The three fields of a line; none where it has more or fewer.

@@ -14,6 +14,7 @@ pub mod table;
 pub use answers::{any_runs, best_dock, count_docks, least_time};
 pub use dock::Dock;
 pub use fault::{TableError, TableFault};
+pub use fields::NONE;
 pub use name::Name;
 pub use reading::read_table;
 pub use table::Table;

@@ -1,5 +1,5 @@
 // How a name is made and read.
-ghost use Rattle.std.specs.Prelude.{◌≡◌, true, false, MatchOption};
+ghost use Rattle.std.specs.Prelude.{◌≡◌, ◌≤◌, true, false, length, MatchOption};
 ghost use Rattle.docks.specs.Tables.{is_name};
 ghost use Rattle.docks.specs.Views.{name_bytes};
 
@@ -22,7 +22,8 @@ impl Name {
     }
 
     pub fn as_bytes(&self) -> &[u8]
-        ensures { result.now ≡ name_bytes self.now }
+        ensures value { result.now ≡ name_bytes self.now }
+        ensures bound { length result.now ≤ 16 }
     {
         self.text.as_str().as_bytes()
     }

@@ -2,16 +2,16 @@
 ghost use Rattle.std.specs.Prelude.{◌≡◌, ◌<◌, ◌≤◌, [], ◌∷◌, ◌++◌, map, length};
 ghost use Rattle.docks.specs.Views.{entry_of, entries};
 
-use super::Table;
+use super::{MOST, Table};
 use crate::dock::Dock;
-use arrayvec::ArrayVec;
 
 impl Table {
     pub(crate) fn new() -> Table
         ensures { entries result ≡ [] }
     {
         Table {
-            docks: ArrayVec::new(),
+            docks: [Dock::default(); MOST],
+            count: 0,
         }
     }
 
@@ -19,20 +19,31 @@ impl Table {
         ensures value { map entry_of result.now ≡ entries self.now }
         ensures bound { length result.now ≤ 64 }
     {
-        self.docks.as_slice()
+        let docks = &self.docks[..];
+        &docks[..self.count]
     }
 
     pub fn len(&self) -> usize
         ensures value { result ≡ length (entries self.now) }
         ensures bound { result ≤ 64 }
     {
-        self.docks.len()
+        self.docks().len()
     }
 
     pub(crate) fn push(&mut self, dock: Dock)
         requires { length (entries self.old) < 64 }
         ensures { entries self.new ≡ entries self.old ++ entry_of dock ∷ [] }
     {
-        self.docks.push(dock);
+        self.docks[self.count] = dock;
+        self.count += 1;
+    }
+}
+
+// A table of no docks.
+impl Default for Table {
+    ghost is_default = { λ t. entries t ≡ [] };
+
+    fn default() -> Table {
+        Table::new()
     }
 }
