@@ -1,5 +1,5 @@
 -- The commands of a graph one by one, and the streams that each reads and makes. Assumes nothing.
-use Rattle.std.specs.Prelude.{◌≡◌, ℕ, ◌+◌, ◌≤◌, List, [], ◌∷◌, ◌++◌, length, drop, Some, None, Option, ◌≢◌}
+use Rattle.std.specs.Prelude.{◌≡◌, ℕ, ◌+◌, ◌≤◌, List, [], ◌∷◌, ◌++◌, length, take, drop, Some, None, Option, ◌≢◌}
 use Rattle.commands.specs.declared.command.Command.{Command}
 use Rattle.commands.specs.Bytes.{bytes}
 use Rattle.commands.specs.Held.{held}
@@ -7,6 +7,7 @@ use Rattle.model.specs.Commands as model
 use Rattle.model.specs.Commands.{bytes_of}
 use Rattle.model.specs.Bounds.{Small}
 use Rattle.listings.specs.declared.Placed.{Placed}
+use Rattle.listings.specs.declared.Streams.{Streams}
 
 -- the command whose bytes stand at a place, and the place behind them; none where no command's bytes do
 abbrev pub StandsAt : List ℕ → ℕ → Option Placed → Type 0
@@ -44,3 +45,6 @@ streams_made (model.MUL a b out) = out ∷ []
 streams_made (model.ADD a b out) = out ∷ []
 streams_made (model.SUM a out) = out ∷ []
 streams_made (model.WRITE d v zs ks) = []
+
+abbrev pub Lists : Streams → List ℕ → Type 0
+Lists r xs = (r.len ≤ 5) × (take r.len r.numbers ≡ xs)

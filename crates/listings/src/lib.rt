@@ -1,14 +1,13 @@
 // The commands of a graph one by one, for those who print them: as bytes, by their names, and as a DOT picture.
 #![tactic(auto)]
 
-ghost use Rattle.std.specs.Prelude.{◌≡◌, ◌∷◌, ◌<◌, ◌≤◌, length, take, IfSome};
+ghost use Rattle.std.specs.Prelude.{◌∷◌, ◌<◌, ◌≤◌, length, take, IfSome};
 ghost use Rattle.commands.specs.Held.{meant};
-ghost use Rattle.listings.specs.Listings.{StandsAt, FindsModel, streams_read, streams_made};
+ghost use Rattle.listings.specs.Listings.{StandsAt, FindsModel, streams_read, streams_made, Lists};
 
 pub mod printing;
 pub mod walk;
 
-use arrayvec::ArrayVec;
 use commands::{Command, DepthStreams, decode};
 
 // A command, and the place behind its bytes.
@@ -36,39 +35,39 @@ pub fn command_at(bytes: &[u8], at: usize) -> Option<Placed>
     })
 }
 
-// Numbers of streams. A WRITE at depth 4 reads five, and no command reads or makes more.
-pub type Streams = ArrayVec<u8, 5>;
-
-fn listed(numbers: &[u8]) -> Streams
-    requires { length numbers.now ≤ 5 }
-    ensures { result.items ≡ numbers.now }
-{
-    let mut streams = Streams::new();
-    streams.try_extend_from_slice(numbers).unwrap();
-    streams
+// Numbers of streams: the first `len`. A WRITE at depth 4 reads five, and no command reads or makes more.
+#[derive(Clone, Copy)]
+pub struct Streams {
+    pub numbers: [u8; 5],
+    pub len: usize,
 }
 
 // The values of a WRITE, and its coordinate streams down to its depth.
 fn leaves(depth: u8, values: u8, coordinates: DepthStreams) -> Streams
-    ensures { result.items ≡ values ∷ take depth coordinates.bytes }
+    ensures { Lists result (values ∷ take depth coordinates.bytes) }
 {
-    let mut streams = listed(&[values]);
-    let depth = usize::from(depth).min(4);
-    streams
-        .try_extend_from_slice(&coordinates.bytes[..depth])
-        .unwrap();
-    streams
+    let [a, b, c, d] = coordinates.bytes;
+    Streams {
+        numbers: [values, a, b, c, d],
+        len: 1 + usize::from(depth).min(4),
+    }
 }
 
 // The streams that a command reads.
 pub fn reads(command: Command) -> Streams
-    ensures { result.items ≡ streams_read (meant command) }
+    ensures { Lists result (streams_read (meant command)) }
 {
     match command {
-        Command::Root { .. } => Streams::new(),
+        Command::Root { .. } => Streams {
+            numbers: [0; 5],
+            len: 0,
+        },
         Command::Scan { references: a, .. }
         | Command::Load { references: a, .. }
-        | Command::Sum { a, .. } => listed(&[a]),
+        | Command::Sum { a, .. } => Streams {
+            numbers: [a, 0, 0, 0, 0],
+            len: 1,
+        },
         Command::Meet { a, b, .. }
         | Command::Join { a, b, .. }
         | Command::Mul { a, b, .. }
@@ -77,13 +76,19 @@ pub fn reads(command: Command) -> Streams
             references: a,
             z: b,
             ..
-        } => listed(&[a, b]),
+        } => Streams {
+            numbers: [a, b, 0, 0, 0],
+            len: 2,
+        },
         Command::Align {
             coordinates,
             references,
             z,
             ..
-        } => listed(&[coordinates, references, z]),
+        } => Streams {
+            numbers: [coordinates, references, z, 0, 0],
+            len: 3,
+        },
         Command::Write {
             depth,
             values,
@@ -95,7 +100,7 @@ pub fn reads(command: Command) -> Streams
 
 // The streams that a command makes.
 pub fn makes(command: Command) -> Streams
-    ensures { result.items ≡ streams_made (meant command) }
+    ensures { Lists result (streams_made (meant command)) }
 {
     match command {
         Command::Root { out }
@@ -106,12 +111,21 @@ pub fn makes(command: Command) -> Streams
         | Command::Load { out, .. }
         | Command::Mul { out, .. }
         | Command::Add { out, .. }
-        | Command::Sum { out, .. } => listed(&[out]),
+        | Command::Sum { out, .. } => Streams {
+            numbers: [out, 0, 0, 0, 0],
+            len: 1,
+        },
         Command::Scan {
             coordinates_out,
             references_out,
             ..
-        } => listed(&[coordinates_out, references_out]),
-        Command::Write { .. } => Streams::new(),
+        } => Streams {
+            numbers: [coordinates_out, references_out, 0, 0, 0],
+            len: 2,
+        },
+        Command::Write { .. } => Streams {
+            numbers: [0; 5],
+            len: 0,
+        },
     }
 }

@@ -50,10 +50,12 @@ fn show_edges<W: fmt::Write>(
     index: usize,
     f: &mut fmt::Formatter<W>,
 ) -> fmt::Result {
-    for stream in &reads(command) {
+    let inputs = reads(command);
+    for stream in &inputs.numbers[..inputs.len] {
         writeln!(f, "    s{} -> c{index};", *stream)?;
     }
-    for stream in &makes(command) {
+    let outputs = makes(command);
+    for stream in &outputs.numbers[..outputs.len] {
         writeln!(f, "    c{index} -> s{};", *stream)?;
     }
     Ok(())
