@@ -6,7 +6,7 @@ use Rattle.docks.specs.declared.dock.Dock.{Dock}
 use Rattle.docks.specs.declared.table.Table.{Table}
 
 abbrev pub name_bytes : Name → List ℕ
-name_bytes n = n.text.bytes
+name_bytes n = take n.len n.bytes
 
 abbrev pub entry_of : Dock → Entry
 entry_of d = record { name = name_bytes d.name; leg_in = d.leg_in.value; leg_out = d.leg_out.value }

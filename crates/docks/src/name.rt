@@ -1,30 +1,21 @@
 // The name of a dock, held in place.
-ghost use Rattle.std.specs.Prelude.{◌≡◌, ◌≤◌, [], length};
+ghost use Rattle.std.specs.Prelude.{◌≤◌};
 
-use arrayvec::ArrayString;
-use std::fmt;
+use std::{fmt, str};
 
 mod methods;
 
+// An array with its length, and no growing text: a table of names in such texts could not be taken out of a `Result` by `?`.
 #[derive(Clone, Copy, PartialEq, Eq, Debug)]
 pub struct Name {
-    text: ArrayString<16>,
-    ghost short: { length text.bytes ≤ 16 },
+    bytes: [u8; 16],
+    len: usize,
+    ghost short: { len ≤ 16 },
 }
 
-// An empty name.
-impl Default for Name {
-    ghost is_default = { λ n. n.text.bytes ≡ [] };
-
-    fn default() -> Name {
-        Name {
-            text: ArrayString::new(),
-        }
-    }
-}
-
+// A name that was read is ASCII text.
 impl fmt::Display for Name {
     fn fmt<W: fmt::Write>(&self, f: &mut fmt::Formatter<W>) -> fmt::Result {
-        f.write_str(self.text.as_str())
+        f.write_str(str::from_utf8(self.as_bytes()).unwrap_or("?"))
     }
 }

@@ -1,12 +1,22 @@
 // How a name is made and read.
-ghost use Rattle.std.specs.Prelude.{◌≡◌, ◌≤◌, true, false, length, MatchOption};
+ghost use Rattle.std.specs.Prelude.{◌≡◌, ◌≤◌, true, false, [], length, MatchOption};
 ghost use Rattle.docks.specs.Tables.{is_name};
 ghost use Rattle.docks.specs.Views.{name_bytes};
 
 use super::Name;
 use crate::fields::is_name;
-use arrayvec::ArrayString;
-use std::str;
+
+// An empty name.
+impl Default for Name {
+    ghost is_default = { λ n. name_bytes n ≡ [] };
+
+    fn default() -> Name {
+        Name {
+            bytes: [0; 16],
+            len: 0,
+        }
+    }
+}
 
 impl Name {
     // A field as a name, if it is one.
@@ -16,15 +26,18 @@ impl Name {
         if !is_name(field) {
             return None;
         }
-        let field = str::from_utf8(field).unwrap();
-        let text = ArrayString::from(field).unwrap();
-        Some(Name { text })
+        let mut bytes = [0; 16];
+        bytes[0..field.len()].copy_from_slice(field);
+        Some(Name {
+            bytes,
+            len: field.len(),
+        })
     }
 
     pub fn as_bytes(&self) -> &[u8]
         ensures value { result.now ≡ name_bytes self.now }
         ensures bound { length result.now ≤ 16 }
     {
-        self.text.as_str().as_bytes()
+        &self.bytes[0..self.len]
     }
 }

@@ -19,8 +19,7 @@ impl Table {
         ensures value { map entry_of result.now ≡ entries self.now }
         ensures bound { length result.now ≤ 64 }
     {
-        let docks = &self.docks[..];
-        &docks[..self.count]
+        &self.docks[0..self.count]
     }
 
     pub fn len(&self) -> usize
