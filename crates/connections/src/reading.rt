@@ -37,7 +37,7 @@ fn show_access(rt: &impl Print, text: &[u8], access: Access) -> io::Result<()> {
 
 // Each sign of the outer sum has a term to its right, and the first term stands left of them all.
 fn count_terms(line: &Syntax) -> usize {
-    let left_of = |at: &usize| match line.parsed.arena.node(*at) {
+    let left_of = |at: &usize| match line.parsed.arena.get(*at) {
         Some(Node::Plus { left, .. }) => Some(left),
         _ => None,
     };

@@ -1,16 +1,18 @@
 // The name of a dock, held in place.
-ghost use Rattle.std.specs.Prelude.{◌≤◌};
+ghost use Rattle.std.specs.Prelude.{◌≡◌, ◌≤◌, ◌-◌, ◌++◌, length, take, replicate};
 
 use std::{fmt, str};
 
 mod methods;
 
 // An array with its length, and no growing text: a table of names in such texts could not be taken out of a `Result` by `?`.
-#[derive(Clone, Copy, PartialEq, Eq, Debug)]
+#[derive(Clone, Copy, Debug)]
 pub struct Name {
     bytes: [u8; 16],
     len: usize,
     ghost short: { len ≤ 16 },
+    ghost room: { length bytes ≡ 16 },
+    ghost filled: { bytes ≡ take len bytes ++ replicate (16 - len) 0 },
 }
 
 // A name that was read is ASCII text.

@@ -65,6 +65,18 @@ mod tests {
     }
 
     #[test]
+    fn names_by_their_texts(rt: HostRuntime) -> Result<(), Fail> {
+        let table = read_table(b"ab 1 2\nac 1 2\nab 3 4\na 1 2\n")?;
+        let [ab, ac, again, a] = table.docks() else {
+            return Err(Fail::new("not four docks"));
+        };
+        assert!(rt; ab.name == again.name);
+        assert!(rt; ab.name != ac.name);
+        assert!(rt; ab.name != a.name);
+        Ok(())
+    }
+
+    #[test]
     fn limit(rt: HostRuntime) -> Result<(), Fail> {
         let mut text = Vec::new(rt.alloc());
         for _ in 0..64 {

@@ -94,6 +94,8 @@ mod alone;
 #[cfg(test)]
 mod brackets;
 #[cfg(test)]
+mod nodes;
+#[cfg(test)]
 mod products;
 #[cfg(test)]
 mod scalars;

@@ -13,6 +13,7 @@ use Rattle.lines.specs.declared.line.Syntax.{Syntax as Record}
 use Rattle.lines.specs.Tables.{entries, entry, stood_for, Added, FitsIn, Collected}
 use Rattle.lines.specs.Ties.{Tied}
 use Rattle.lines.specs.Describes.{Describes}
+use Rattle.lines.proofs.Collecting.{has_room}
 use Rattle.lines.proofs.Tying.{entries_stand}
 use Rattle.lines.proofs.Placing.{line_tied, left_count, order_count, left_listed, order_listed, accesses_few, body_short}
 
@@ -26,7 +27,7 @@ module _ (s : List ℕ) (x : Parsed) (l : Syntax) (h : Spells s l) (g : Stands x
   pub table_added : (old new : Accesses) → old.len ≡ 0 → Collected x.arena.nodes x.root old new → Added old new (map entry (placed_accesses l))
   table_added old new none c =
       let fits : FitsIn old x.body l.body = subst (λ p. FitsIn old p l.body) (sym g.body) (omega (arith, none, accesses_few s l h), body_short s l h) in
-      subst (λ p. Added old new (map entry (accesses_from p l.body))) g.body (c l.body x.body g.holds fits)
+      subst (λ p. Added old new (map entry (accesses_from p l.body))) g.body (c l.body x.body g.holds (has_room old l.body x.body fits))
 
   pub table_described : (old new : Accesses) → old.len ≡ 0 → Collected x.arena.nodes x.root old new → entries new ≡ map entry (placed_accesses l)
   table_described old new none c = (table_added old new none c).list ∙ ap (λ n. take n old.list ++ map entry (placed_accesses l)) none

@@ -65,7 +65,7 @@ pub(crate) fn ninth(accesses: &[Access]) -> Option<usize>
 pub(crate) fn collect(arena: &Arena, at: usize, into: &mut Accesses)
     ensures { Collected arena.now.nodes at into.old into.new }
 {
-    let Some(node) = arena.node(at) else {
+    let Some(node) = arena.get(at) else {
         return;
     };
     match node {

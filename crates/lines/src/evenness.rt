@@ -16,7 +16,7 @@ impl Written<'_> {
     fn add_vars(self, at: usize, set: &mut VarSet)
         ensures { Adds self.entry.text.now self.entry.arena.now.nodes at set.old set.new }
     {
-        let Some(node) = self.arena.node(at) else {
+        let Some(node) = self.arena.get(at) else {
             return;
         };
         match node {
@@ -47,7 +47,7 @@ impl Written<'_> {
     fn last_vars(self, at: usize) -> VarSet
         ensures { HasLastVars self.entry.text.now self.entry.arena.now.nodes at result }
     {
-        let Some(node) = self.arena.node(at) else {
+        let Some(node) = self.arena.get(at) else {
             return VarSet::new();
         };
         match node {
@@ -76,7 +76,7 @@ impl Written<'_> {
     pub(crate) fn uneven_sum(self, at: usize, inside: bool) -> Option<usize>
         ensures { SumsEvenly self.entry.text.now self.entry.arena.now.nodes at inside result }
     {
-        match self.arena.node(at)? {
+        match self.arena.get(at)? {
             Node::Access { .. } => None,
             Node::Group { inner, .. } => self.uneven_sum(inner, true),
             Node::Times { left, right } => {
@@ -102,7 +102,7 @@ impl Written<'_> {
     pub(crate) fn lacking_term(self, at: usize, start: usize, left: &VarSet) -> Option<usize>
         ensures { TermsHave self.entry.text.now self.entry.arena.now.nodes at start left.now result }
     {
-        match self.arena.node(at)? {
+        match self.arena.get(at)? {
             Node::Plus {
                 place,
                 left: sum,

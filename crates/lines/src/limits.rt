@@ -67,7 +67,7 @@ pub(crate) fn fifth_bracket(arena: &Arena, at: usize, depth: usize) -> Option<us
     requires { depth ≤ 4 }
     ensures { Deep arena.now.nodes at depth result }
 {
-    match arena.node(at)? {
+    match arena.get(at)? {
         Node::Access { .. } => None,
         Node::Group { place, inner } => {
             if depth >= 4 {

@@ -1,5 +1,7 @@
 // How a name is made and read.
-ghost use Rattle.std.specs.Prelude.{◌≡◌, ◌≤◌, true, false, [], length, MatchOption};
+ghost use Rattle.std.specs.Prelude.{◌≡◌, ◌≤◌, true, false, [], length, nat_eq, MatchOption};
+ghost use Rattle.std.specs.Cmp.{on_equiv, on_per, partial_equiv_from_equiv};
+ghost use Rattle.std.specs.Cmp.Lexicographic.{pointwise, nat_list_eq_equiv};
 ghost use Rattle.docks.specs.Tables.{is_name};
 ghost use Rattle.docks.specs.Views.{name_bytes};
 
@@ -16,6 +18,21 @@ impl Default for Name {
             len: 0,
         }
     }
+}
+
+// Names are equal by their texts; a derive would promise that what fills the arrays behind them is compared too.
+impl PartialEq for Name {
+    ghost eq = { λ a b. pointwise nat_eq (name_bytes a) (name_bytes b) };
+
+    ghost laws = { on_per (λ n. name_bytes n) (partial_equiv_from_equiv nat_list_eq_equiv) };
+
+    fn eq(&self, other: &Name) -> bool {
+        self.as_bytes() == other.as_bytes()
+    }
+}
+
+impl Eq for Name {
+    ghost laws = { on_equiv (λ n. name_bytes n) nat_list_eq_equiv };
 }
 
 impl Name {
