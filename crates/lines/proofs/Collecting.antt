@@ -62,7 +62,7 @@ module _ (ns : List Node) (i : ℕ) where
       at_group (λ at t. HasRoom old at t → Added old new (map entry (accesses_from at t))) ns i p j e
       (λ u lt g fits. h u (p + 1) g (omega (arith, fits.0), fits.1))
 
-  module _ (join : Tree → Tree → Tree) (are : (a b : Tree) (at : ℕ) → accesses_from at (join a b) ≡ accesses_from at a ++ accesses_from (at + length (text a) + 1) b) (long : (a b : Tree) → length (text (join a b)) ≡ length (text a) + 1 + length (text b)) (j k : ℕ) (joins : Joins join ns i j k) where
+  module _ (join : Tree → Tree → Tree) (are : (a b : Tree) (at : ℕ) → accesses_from at (join a b) ≡ accesses_from at a ++ accesses_from (at + length (text a) + 1) b) (j k : ℕ) (joins : Joins join ns i j k) where
     many : (a b : Tree) (at : ℕ) → length (accesses_from at (join a b)) ≡ length (accesses_from at a) + length (accesses_from (at + length (text a) + 1) b)
     many a b at = ap length (are a b at) ∙ length-append (accesses_from at a) (accesses_from (at + length (text a) + 1) b)
 
@@ -80,6 +80,6 @@ module _ (ns : List Node) (i : ℕ) where
   pub collected_chain : (x : Node) (j k : ℕ) → x ≡ node ns i → Joined x j k → (old mid new : Accesses) → Collected ns j old mid → Collected ns k mid new → Collected ns i old new
   collected_chain x j k e is old mid new g h =
       ⊎_elim
-      (λ f. collected_both times (λ a b at. refl) (join_long 42) j k (times_joins ns i j k (sym e ∙ f)) old mid new g h)
-      (λ f. collected_both plus (λ a b at. refl) (join_long 43) j k (plus_joins ns i f.0 j k (sym e ∙ f.1)) old mid new g h)
+      (λ f. collected_both times (λ a b at. refl) j k (times_joins ns i j k (sym e ∙ f)) old mid new g h)
+      (λ f. collected_both plus (λ a b at. refl) j k (plus_joins ns i f.0 j k (sym e ∙ f.1)) old mid new g h)
       is
